@@ -191,6 +191,15 @@ class Rows:
         return float(self._number("NSUBOFFS", 0)) * in_row
 
 
+def rows_of(path: str) -> Rows:
+    """The rows of a PSRFITS file, or the refusal of one whose headers no program can read."""
+    try:
+        return Rows(path)
+    except (fits.VerifyError, ValueError, TypeError, AttributeError, LookupError, ArithmeticError) as fault:
+        why = " ".join(str(fault).split())
+        raise refused(path, f"its headers can't be read: {why or type(fault).__name__}") from fault
+
+
 def headers_of(path: str) -> tuple[fits.Header, fits.Header, Any, int]:
     """The headers of a PSRFITS file and of its table of data, the columns of this, and where its rows begin."""
     with opened(path) as file:
@@ -198,29 +207,35 @@ def headers_of(path: str) -> tuple[fits.Header, fits.Header, Any, int]:
     if front != b"SIMPLE  =":
         raise refused(path, "it is no FITS file")
     try:
-        with warnings.catch_warnings(), fits.open(path, memmap=True) as whole:
+        with warnings.catch_warnings():
             # a file that was cut is said in one line
             warnings.simplefilter("ignore", AstropyWarning)
-            primary = whole[0].header
-            if str(primary.get("FITSTYPE", "PSRFITS")).strip() != "PSRFITS" or "SUBINT" not in whole:
-                raise refused(path, "it is a FITS file, but no PSRFITS file with a SUBINT table")
-            mode = str(primary.get("OBS_MODE", "SEARCH")).strip().upper()
-            if mode not in ("SEARCH", "SRCH"):
-                raise refused(path, f"its OBS_MODE is {mode}, and not SEARCH")
-            table = whole["SUBINT"]
-            if "DATA" not in table.columns.names:
-                raise refused(path, "its SUBINT table has no DATA")
-            return primary, table.header, table.columns, int(table.fileinfo()["datLoc"])
+            with fits.open(path, memmap=True) as whole:
+                return table_of(path, whole)
     except OSError as fault:
         if fault.strerror:
             raise unread(path, fault) from fault
         raise refused(path, f"it is no whole FITS file: {fault}") from fault
 
 
+def table_of(path: str, whole: fits.HDUList) -> tuple[fits.Header, fits.Header, Any, int]:
+    """What `headers_of` answers, of an open file."""
+    primary = whole[0].header
+    if str(primary.get("FITSTYPE", "PSRFITS")).strip() != "PSRFITS" or "SUBINT" not in whole:
+        raise refused(path, "it is a FITS file, but no PSRFITS file with a SUBINT table")
+    mode = str(primary.get("OBS_MODE", "SEARCH")).strip().upper()
+    if mode not in ("SEARCH", "SRCH"):
+        raise refused(path, f"its OBS_MODE is {mode}, and not SEARCH")
+    table = whole["SUBINT"]
+    if "DATA" not in table.columns.names:
+        raise refused(path, "its SUBINT table has no DATA")
+    return primary, table.header, table.columns, int(table.fileinfo()["datLoc"])
+
+
 def psr_fits(words: Sequence[str]) -> None:
     """Writes the DADA file that the words ask for."""
     asked = parsed(words)
-    files = [Rows(path) for path in asked.files]
+    files = [rows_of(path) for path in asked.files]
     observation = Observation(files, chosen_polarisations(files[0].layout, asked.only))
     for rows in files:
         if rows.is_cut:
