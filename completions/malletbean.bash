@@ -24,6 +24,7 @@ _malletbean() { # _malletbean COMMAND WORD PREVIOUS_WORD
                 --max-candidates --max-bytes --buffers --size --chunk --turns' ;;
         psr_record) options='--max-bytes --file-size --hands --buffers --size --turns' ;;
         psr_make) options='--number --nchan --spectra --delay --period --height --nbit --npol' ;;
+        psr_cut) options='--from --length --next' ;;
         psr_dada) options='--state --order --pol --values --signed --high-byte-first' ;;
         psr_fil) options='--if --keyword' ;;
         psr_fits) options='--pol' ;;
@@ -32,6 +33,7 @@ _malletbean() { # _malletbean COMMAND WORD PREVIOUS_WORD
                 --high-byte-first --max-bytes' ;;
         psr_look) options='--megabytes --mask --channels' ;;
         psr_plot) options='--obs --beam --mask --part --output --show --fold --next' ;;
+        psr_series) options='--delay --output --fold --next --mask' ;;
         psr_table) options='--obs --beam --mask --part --output --folds --best' ;;
         psr_plan)
             options='--spectra --mean --sd --snr --max-delay --min-delay --widths --fold-max --fold-min --fold-rows
@@ -40,10 +42,11 @@ _malletbean() { # _malletbean COMMAND WORD PREVIOUS_WORD
     esac
     case $program:$at:$previous in # what stands first, and the values of options
         psr_part:1:* | psr_beams:1:*) names='' ;;
-        psr_search:*:--record | psr_dada:*:--signed | psr_dada:*:--high-byte-first | psr_fil:*:--keyword | \
-            psr_level:*:--zero-dm | psr_level:*:--fast | psr_level:*:--signed | psr_level:*:--high-byte-first | \
-            psr_look:*:--channels | psr_plot:*:--part | psr_plot:*:--output | psr_plot:*:--show | psr_plot:*:--next | \
-            psr_table:*:--part | psr_table:*:--output | psr_table:*:--folds)
+        psr_search:*:--record | psr_cut:*:--next | psr_dada:*:--signed | psr_dada:*:--high-byte-first | \
+            psr_fil:*:--keyword | psr_level:*:--zero-dm | psr_level:*:--fast | psr_level:*:--signed | \
+            psr_level:*:--high-byte-first | psr_look:*:--channels | psr_plot:*:--part | psr_plot:*:--output | \
+            psr_plot:*:--show | psr_plot:*:--next | psr_series:*:--output | psr_series:*:--next | psr_table:*:--part | \
+            psr_table:*:--output | psr_table:*:--folds)
             names=yes ;;
         psr_search:*:--widths | psr_mask:*:--widths | psr_part:*:--widths | psr_beams:*:--widths | \
             psr_plan:*:--widths)
@@ -65,4 +68,5 @@ _malletbean() { # _malletbean COMMAND WORD PREVIOUS_WORD
     mapfile -t COMPREPLY < <(compgen -W "$values" -- "$word"; [[ -z $names ]] || compgen -f -- "$word")
 }
 complete -o filenames -F _malletbean psr_search psr_mask psr_part psr_beams psr_record psr_make psr_demo ring_trace \
-    psr_dada psr_fil psr_fits psr_hunt psr_level psr_look psr_plot psr_table psr_why psr_plan psr_join
+    psr_cut psr_dada psr_fil psr_fits psr_hunt psr_level psr_look psr_plot psr_series psr_table psr_why psr_plan \
+    psr_join

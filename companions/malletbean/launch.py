@@ -8,6 +8,7 @@ from importlib import import_module
 # the module of each command, and its function
 COMMANDS = {
     "plan": "cluster.plan",
+    "psr_cut": "cut.psr_cut",
     "psr_dada": "dada.psr_dada",
     "psr_fil": "fil.psr_fil",
     "psr_fits": "fits.psr_fits",
@@ -16,6 +17,7 @@ COMMANDS = {
     "psr_look": "look.psr_look",
     "psr_plan": "cluster.plan",
     "psr_plot": "plot.psr_plot",
+    "psr_series": "series.psr_series",
     "psr_table": "table.psr_table",
 }
 # the Python that Debian's packages are for

@@ -20,7 +20,7 @@ def test_each_companion_is_a_command() -> None:
 def test_a_name_that_is_none(monkeypatch: pytest.MonkeyPatch, capsys: pytest.CaptureFixture[str]) -> None:
     monkeypatch.setattr(sys, "argv", ["/bin/psr_lok"])
     assert launch.main() == 2
-    assert capsys.readouterr().err.startswith("psr_lok: the companions are plan, psr_dada")
+    assert capsys.readouterr().err.startswith("psr_lok: the companions are plan, psr_cut")
 
 
 def test_a_python_without_packages(monkeypatch: pytest.MonkeyPatch, capsys: pytest.CaptureFixture[str]) -> None:
