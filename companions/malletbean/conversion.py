@@ -83,7 +83,8 @@ def convert(program: str, output: str, observed: Observed, values: Values, said:
         print(f"{program}: {line}")
     for line in [] if scaler is None else scaler.warned():
         print(f"{program}: {line}", file=sys.stderr)
-    print(f"{program}: {count} spectra of {observed.channels // joined} channels; psr_look {output} prints a first search")
+    channels = observed.channels // joined
+    print(f"{program}: {count} spectra of {channels} channels; psr_look {output} prints a first search")
 
 
 def channels_to_join(path: str, channels: int) -> int:
@@ -106,7 +107,8 @@ def with_joined(values: Array, joined: int) -> Array:
 
 def header_bytes(path: str, observed: Observed, joined: int, bits: int) -> bytes:
     """The header of a DADA file, which is one that a search takes."""
-    form = {"NCHAN": str(observed.channels // joined), "NBIT": str(bits), "NPOL": str(observed.polarisations), "NDIM": "1"}
+    form = {"NCHAN": str(observed.channels // joined), "NBIT": str(bits), "NPOL": str(observed.polarisations),
+            "NDIM": "1"}
     text = changed_text(observed, form, joined, bits) if observed.text else new_text(observed, form)
     if len(text) >= observed.size:
         raise refused(path, f"Overfull {len(text)} {observed.size}")
@@ -159,6 +161,18 @@ def notes(observed: Observed, joined: int) -> list[str]:
     if abs(drift) > SMALL_DRIFT:
         lines.append(f"TSAMP is taken to a nanosecond: times are wrong by {abs(drift) * 3.6e6:.3g} ms after an hour")
     return lines
+
+
+def native(values: Array) -> Array:
+    """The values in this machine's order of bytes."""
+    return values.astype(values.dtype.newbyteorder("="), copy=False)
+
+
+def raised(values: Array, bits: int) -> Array:
+    """Signed whole numbers of so many bits as unsigned ones: the least becomes 0."""
+    kind = np.dtype(f"u{values.dtype.itemsize}")
+    unsigned: Array = np.ascontiguousarray(values).view(kind) ^ kind.type(2**(bits - 1))
+    return unsigned
 
 
 def even_pieces(spectra: int, most: int) -> list[tuple[int, int]]:

@@ -8,7 +8,7 @@ from dataclasses import dataclass
 import numpy as np
 
 from .arrays import Array
-from .conversion import VALUES_AT_A_TIME, VALUES_TO_LEVEL_BY, Observed, convert, even_pieces
+from .conversion import VALUES_AT_A_TIME, VALUES_TO_LEVEL_BY, Observed, convert, even_pieces, native, raised
 from .headers import KEYWORDS, fields_of, header_text, number_of, refused
 from .number import scaled
 from .program import Words
@@ -155,14 +155,14 @@ class Observation:
                 raise Refusal(WORDS, f"argument --pol: {path} has {count} values of a channel, counted from 0")
             return (only,)
         if form.state in VOLTAGES:
-            raise refused(path, f"its STATE is {form.state.capitalize()}: voltages have to be detected first, by DSPSR's "
-                                "digifil for example")
+            raise refused(path, f"its STATE is {form.state.capitalize()}: voltages have to be detected first, by "
+                                "DSPSR's digifil for example")
         if form.dimensions == 1 and count <= 2:
             return tuple(range(count))
         products, added = STATES.get(form.state, (0, 0))
         if products != count:
-            raise refused(path, f"it has {count} values of a channel, and its STATE is {form.state or 'missing'}: say what "
-                                f"they are by --state, or choose one by --pol K, K from 0 on")
+            raise refused(path, f"it has {count} values of a channel, and its STATE is {form.state or 'missing'}: say "
+                                "what they are by --state, or choose one by --pol K, K from 0 on")
         return tuple(range(added))
 
     def _mapped(self) -> list[Array]:
@@ -198,22 +198,22 @@ class Observation:
     def _values(self, number: int, first: int, count: int) -> Array:
         """So many spectra of a file, by spectrum, channel and polarisation."""
         form, data = self.form, self._files[number]
-        sizes = {"T": count, "F": form.channels, "P": form.polarisations}
         if form.order[0] == "T":
             bits = form.in_one * form.bits
             part = data[first * bits // 8:-(-(first + count) * bits // 8)]
-            shaped = self._unpacked(part)[:count * form.in_one].reshape(*(sizes[axis] for axis in form.order), form.dimensions)
+            shaped = self._unpacked(part)[:count * form.in_one].reshape(self._shape(count))
         else:
-            sizes["T"] = self._spectra(data)
-            whole = data[:sizes["T"] * form.in_one * form.bits // 8].view(self._number_kind())
-            shaped = whole.reshape(*(sizes[axis] for axis in form.order), form.dimensions)
-            shaped = shaped.take(range(first, first + count), axis=form.order.index("T"))
+            spectra = self._spectra(data)
+            whole = data[:spectra * form.in_one * form.bits // 8].view(self._number_kind())
+            whole = whole.reshape(self._shape(spectra))
+            shaped = native(whole.take(range(first, first + count), axis=form.order.index("T")))
         ordered = shaped.transpose(*(form.order.index(axis) for axis in "TFP"), 3)
         values: Array = ordered.reshape(count, form.channels, -1)[:, :, self._chosen]
-        if self._sign == "i" and self.bits is not None:
-            # the least value becomes 0
-            values = values.view(f"u{values.dtype.itemsize}") ^ np.dtype(f"u{values.dtype.itemsize}").type(2**(form.bits - 1))
-        return values
+        return raised(values, form.bits) if self._sign == "i" and self.bits is not None else values
+
+    def _shape(self, spectra: int) -> tuple[int, ...]:
+        sizes = {"T": spectra, "F": self.form.channels, "P": self.form.polarisations}
+        return *(sizes[axis] for axis in self.form.order), self.form.dimensions
 
     def _number_kind(self) -> np.dtype[np.generic]:
         return np.dtype(f"{self._swap}{self._sign}{self.form.bits // 8}")
@@ -222,8 +222,7 @@ class Observation:
         """The values of some bytes, those of fewer than 8 bits with the first in the low bits."""
         bits = self.form.bits
         if bits >= 8:
-            whole: Array = raw.view(self._number_kind()).astype(self._number_kind().newbyteorder("="))
-            return whole
+            return native(raw.view(self._number_kind()))
         shifts = np.arange(0, 8, bits, dtype=np.uint8)
         low_first: Array = (raw[:, None] >> shifts & np.uint8(2**bits - 1)).reshape(-1)
         return low_first

@@ -13,7 +13,7 @@ from typing import BinaryIO
 import numpy as np
 
 from .arrays import Array
-from .conversion import PICOSECONDS, VALUES_AT_A_TIME, VALUES_TO_LEVEL_BY, Observed, convert, even_pieces
+from .conversion import PICOSECONDS, VALUES_AT_A_TIME, VALUES_TO_LEVEL_BY, Observed, convert, even_pieces, raised
 from .headers import refused
 from .program import Words
 from .refusal import WORDS, Refusal, opened, some_of
@@ -254,8 +254,9 @@ class Filterbanks:
         is_dated = bank.start is not None and 0 < bank.start < 200_000
         # a number of days tells microseconds, and no more
         start = round(bank.start * 86_400_000_000) * (PICOSECONDS // 10**6) if is_dated and bank.start else None
-        return Observed(bank.channels, len(self._chosen), bank.seconds, bank.first + bank.step * (bank.channels - 1) / 2,
-                        bank.step * bank.channels, start, bank.others)
+        centre = bank.first + bank.step * (bank.channels - 1) / 2
+        return Observed(bank.channels, len(self._chosen), bank.seconds, centre, bank.step * bank.channels, start,
+                        bank.others)
 
     def pieces(self) -> Iterator[Array]:
         """All values, file by file."""
@@ -345,7 +346,4 @@ def unpacked(raw: Array, bank: Filterbank) -> Array:
         return low_first
     kind = "f" if bank.bits == 32 else "u"
     values: Array = raw[:len(raw) // (bank.bits // 8) * (bank.bits // 8)].view(f"<{kind}{bank.bits // 8}")
-    if bank.is_signed:
-        # the least value becomes 0
-        values = values ^ values.dtype.type(2 ** (bank.bits - 1))
-    return values
+    return raised(values, bank.bits) if bank.is_signed else values

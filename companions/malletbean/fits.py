@@ -15,7 +15,8 @@ from astropy.io import fits  # type: ignore[import]
 from astropy.utils.exceptions import AstropyWarning  # type: ignore[import]
 
 from .arrays import Array
-from .conversion import PICOSECONDS, VALUES_AT_A_TIME, VALUES_TO_LEVEL_BY, Observed, convert, even_pieces
+from .conversion import (PICOSECONDS, VALUES_AT_A_TIME, VALUES_TO_LEVEL_BY, Observed, convert, even_pieces, native,
+                         raised)
 from .headers import refused
 from .masks import mask_text
 from .program import Words
@@ -48,7 +49,7 @@ class Layout:
     bits: int
     # in two's complement, or as FITS has 16 bits
     is_signed: bool
-    # what stands for 0
+    # which stored value stands for 0
     zero: float
     # spectra of a row
     in_row: int
@@ -73,10 +74,13 @@ class Rows:
         self.is_cut = rows < int(table["NAXIS2"])
         if rows == 0:
             raise refused(path, "its SUBINT table has no whole row")
+        if columns.dtype.itemsize != size:
+            raise refused(path, f"a row of its SUBINT table has {size} bytes, and its columns {columns.dtype.itemsize}")
         try:
             self._rows = np.memmap(path, columns.dtype.newbyteorder(">"), "r", place, (rows,))
         except (OSError, ValueError) as fault:
             raise refused(path, f"its rows can't be read: {fault}") from fault
+        self._columns: tuple[str, ...] = self._rows.dtype.names or ()
         self.layout = self._layout(primary)
         self._check_size()
 
@@ -87,7 +91,7 @@ class Rows:
         """When the rows begin, in spectra after the first one of the file; counted where the table doesn't say it."""
         layout = self.layout
         counted = np.arange(len(self)) * float(layout.in_row)
-        if "OFFS_SUB" not in (self._rows.dtype.names or ()):
+        if "OFFS_SUB" not in self._columns:
             return counted
         middles = np.array(self._rows["OFFS_SUB"], float)
         starts: Array = (middles - middles[0]) / layout.seconds
@@ -108,7 +112,7 @@ class Rows:
 
     def scales(self, number: int) -> tuple[Array, Array, Array]:
         """Scale and offset of each polarisation and channel of a row, and the weight of each channel."""
-        layout, names = self.layout, self._rows.dtype.names or ()
+        layout, names = self.layout, self._columns
         shape = layout.polarisations, layout.channels
 
         def column(name: str, default: float) -> Array:
@@ -126,8 +130,8 @@ class Rows:
         layout, data = self.layout, self._rows["DATA"][0]
         bits = layout.in_row * layout.channels * layout.polarisations * layout.bits
         if 8 * data.nbytes != bits or data.dtype.base.kind != BITS[layout.bits]:
-            raise refused(self.path, f"DATA has {data.nbytes} bytes of type {data.dtype.base} in a row, where {bits / 8:g} "
-                                     f"of {layout.bits} bits are expected")
+            raise refused(self.path, f"DATA has {data.nbytes} bytes of type {data.dtype.base} in a row, where "
+                                     f"{bits / 8:g} of {layout.bits} bits are expected")
 
     def _layout(self, primary: fits.Header) -> Layout:
         table, path = self._table, self.path
@@ -147,7 +151,7 @@ class Rows:
             pol_type=str(table.get("POL_TYPE", "")).strip().upper(),
             bits=bits,
             is_signed=bool(int(self._number("SIGNINT", 0))) or bits == 16,
-            zero=float(self._number("ZERO_OFF", 0)),
+            zero=float(self._number("ZERO_OFF", 0)) - self._number(f"TZERO{self._columns.index('DATA') + 1}", 0),
             in_row=int(self._number("NSBLK")),
             seconds=seconds,
             first=first,
@@ -167,7 +171,7 @@ class Rows:
 
     def _frequencies(self, primary: fits.Header, channels: int) -> tuple[float, float]:
         """The centre of the first channel, and how far the next ones lie apart."""
-        if "DAT_FREQ" in (self._rows.dtype.names or ()):
+        if "DAT_FREQ" in self._columns:
             centres = np.array(self._rows["DAT_FREQ"][0], float).reshape(-1)[:channels]
             if len(centres) == channels and channels > 1:
                 step = float(centres[-1] - centres[0]) / (channels - 1)
@@ -182,7 +186,7 @@ class Rows:
     def _first_offset(self, seconds: float) -> float:
         """When the first row begins, in seconds after STT."""
         in_row = float(self._number("NSBLK")) * seconds
-        if "OFFS_SUB" in (self._rows.dtype.names or ()) and float(self._rows["OFFS_SUB"][0]):
+        if "OFFS_SUB" in self._columns and float(self._rows["OFFS_SUB"][0]):
             return float(self._rows["OFFS_SUB"][0]) - in_row / 2
         return float(self._number("NSUBOFFS", 0)) * in_row
 
@@ -208,7 +212,9 @@ def headers_of(path: str) -> tuple[fits.Header, fits.Header, Any, int]:
                 raise refused(path, "its SUBINT table has no DATA")
             return primary, table.header, table.columns, int(table.fileinfo()["datLoc"])
     except OSError as fault:
-        raise (unread(path, fault) if fault.strerror else refused(path, f"it is no whole FITS file: {fault}")) from fault
+        if fault.strerror:
+            raise unread(path, fault) from fault
+        raise refused(path, f"it is no whole FITS file: {fault}") from fault
 
 
 def psr_fits(words: Sequence[str]) -> None:
@@ -242,8 +248,8 @@ def chosen_polarisations(layout: Layout, only: int | None) -> tuple[int, ...]:
         return (only,)
     powers = POWERS.get(layout.pol_type, count)
     if powers > 2 or powers > count:
-        raise refused(layout.path, f"it has {count} polarisations of POL_TYPE {layout.pol_type or 'none'}: choose one by "
-                                   "--pol K, K from 0 on")
+        raise refused(layout.path, f"it has {count} polarisations of POL_TYPE {layout.pol_type or 'none'}: choose one "
+                                   "by --pol K, K from 0 on")
     return tuple(range(powers))
 
 
@@ -309,17 +315,10 @@ class Observation:
             elif self.bits is None:
                 values = np.where(self._uniform == 0, np.nan, values)
             else:
-                values = self._unsigned(values, rows.layout)
+                is_signed = rows.layout.is_signed
+                values = raised(native(values), rows.layout.bits) if is_signed else values.copy()
                 values[:, :, self._uniform == 0] = 0
             yield values.transpose(0, 2, 1)
-
-    def _unsigned(self, values: Array, layout: Layout) -> Array:
-        """Whole numbers, of which the least becomes 0."""
-        if layout.bits < 16 and not layout.is_signed:
-            return values.copy()
-        kind = f"u{values.dtype.itemsize}"
-        unsigned: Array = values.astype(f"i{values.dtype.itemsize}").view(kind) ^ np.dtype(kind).type(2 ** (layout.bits - 1))
-        return unsigned
 
     def _uniform_scales(self) -> Array | None:
         """The weights of channels, where scales, offsets and whether there is a weight are the same in all rows."""
@@ -348,5 +347,6 @@ def check_follows(rows: Rows, first: Rows, count: int) -> None:
     gaps = np.flatnonzero(np.abs(np.diff(apart)) > FOLLOWS)
     if len(gaps):
         row = int(gaps[0])
-        raise refused(rows.path, f"between its rows {row} and {row + 1}, counted from 0, {apart[row + 1] - apart[row]:.1f} "
-                                 "spectra are missing")
+        missing = apart[row + 1] - apart[row]
+        raise refused(rows.path, f"between its rows {row} and {row + 1}, counted from 0, {missing:.1f} spectra are "
+                                 "missing")

@@ -133,8 +133,8 @@ class Header:
 
     @property
     def start(self) -> np.datetime64:
-        """The time of the file's first spectrum: PICOSECONDS after UTC_START begins the observation, unless UTC_START has
-        a fraction of its own.
+        """The time of the file's first spectrum. The observation begins PICOSECONDS after UTC_START, unless UTC_START
+        has a fraction of its own.
 
         NaT where the header has no UTC_START of the usual form, or the time is none that numpy counts in nanoseconds.
         """

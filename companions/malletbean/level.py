@@ -110,7 +110,8 @@ def parsed(words: Sequence[str]) -> argparse.Namespace:
     parser.add_argument("--clip", metavar="Z", type=thousandths,
                         help="spectra whose sum is farther than Z deviations from its mean get the mean alone")
     parser.add_argument("--zero-dm", action="store_true", help="take out the mean of each spectrum")
-    parser.add_argument("--mean", metavar="M", type=thousandths, help="the mean of what is written (8 bits: 64, 16: 1000)")
+    parser.add_argument("--mean", metavar="M", type=thousandths,
+                        help="the mean of what is written (8 bits: 64, 16: 1000)")
     parser.add_argument("--deviation", metavar="D", type=thousandths, help="its deviation (8 bits: 8, 16: 50)")
     parser.add_argument("--most", metavar="L", type=whole_number, help="its greatest value (8 bits: 255, 16: 65535)")
     parser.add_argument("--fast", action="store_true",

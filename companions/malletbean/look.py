@@ -36,6 +36,7 @@ MOST_LINES = 2**20
 USUAL_FILE_SIZE = 2**30
 # below this, printed ratios are moved by little
 LITTLE_MOVED = 1
+FALSE_LINES = "searched as it is, this file gives false lines, or too many (status 9)"
 # stretches to level by are at least so many times as long as a pulse in a channel
 TIMES_PULSE = 16
 
@@ -201,12 +202,12 @@ def header_lines(head: Header) -> Iterator[tuple[str, str]]:
                       f"every {head.sample_ns / 1000:.3f} us")
     yield "length", f"{head.spectra} spectra{rest}, {head.spectra * head.seconds:.3f} s{start}"
     if other_order(head):
-        yield ("order", f"ORDER is {head.fields['ORDER']}, but psr_search takes the values as TFP: psr_dada FILE OUT turns "
-                        "them. Until then all below is wrong")
+        yield ("order", f"ORDER is {head.fields['ORDER']}, but psr_search takes the values as TFP: psr_dada FILE OUT "
+                        "turns them. Until then all below is wrong")
     drift = tsamp_drift(head)
     if drift:
-        yield ("tsamp", f"TSAMP {head.fields['TSAMP']} is taken to a nanosecond: times are wrong by {drift * 3.6e6:.3g} ms "
-                        "after an hour")
+        yield ("tsamp", f"TSAMP {head.fields['TSAMP']} is taken to a nanosecond: times are wrong by "
+                        f"{drift * 3.6e6:.3g} ms after an hour")
 
 
 def start_text(head: Header) -> str:
@@ -259,7 +260,8 @@ def search_line(look: Look, level: LevelFile, search: SearchPass) -> tuple[str, 
     if search.average > 1:
         options = level_options(look, level.average, level.stretch, level.zero_dm)
         noise = f"--mean {search.mean:g} --sd {search.sd:.3f}"
-        return "wider", " ".join(["psr_level --fast", *options, look.name, "| psr_search", noise, *limits, "/dev/stdin"])
+        words = ["psr_level --fast", *options, look.name, "| psr_search", noise, *limits, "/dev/stdin"]
+        return "wider", " ".join(words)
     if look.has_noisy_mask:
         kept = look.measured.of_channels(~look.head.are_masked)
         return "masked", " ".join([f"psr_mask {look.mask}", noise_words(kept), *limits, look.name])
@@ -275,8 +277,7 @@ def level_first(look: Look, level: LevelFile) -> str:
     """How psr_level makes a file that can be searched."""
     head, measured = look.head, look.measured
     if any(are_at(one, head, measured) for one in (LEVELS[head.bits], FAST) if one.bits == head.bits):
-        return ("psr_level again, from the file as it was, with fewer --spectra than before (and with the other options "
-                "that it had): searched as it is, this file gives false lines, or too many (status 9)")
+        return f"psr_level again, from the file as it was, with fewer --spectra and its other options: {FALSE_LINES}"
     # a mean that moves ratios by `drift` over the data moves them by about 1 over a part of these, if it goes evenly;
     # half of that is taken, for one that goes up and down
     steady = measured.reach / max(2 * look.drift, 1)
@@ -284,8 +285,7 @@ def level_first(look: Look, level: LevelFile) -> str:
     stretch = min(level.stretch, max(power_below(steady), power_above(TIMES_PULSE * longest)))
     dm = "" if look.dm is None else f" {dm_text(look.dm)}"
     options = " ".join(level_options(look, 1, stretch, level.zero_dm))
-    return (f"psr_level {options} {look.name} > OUT, then psr_look OUT{dm}: searched as it is, this file gives false lines, "
-            "or too many (status 9)")
+    return f"psr_level {options} {look.name} > OUT, then psr_look OUT{dm}: {FALSE_LINES}"
 
 
 def level_options(look: Look, average: int, stretch: int, zero_dm: bool) -> list[str]:
@@ -371,7 +371,7 @@ def delay_text(head: Header, dm: float) -> str:
     if is_past_data(head, dm):
         return f"{text}, longer than the data: no pulse of it can be found in this file alone"
     if dm > greatest_dm(head):
-        return f"{text}; a search takes {GREATEST_DELAY} at most, and psr_level averages up to 64 spectra: average twice"
+        return f"{text}; a search takes {GREATEST_DELAY} at most, of up to 64 averaged spectra: average twice"
     return text if delay <= GREATEST_DELAY else f"{text}; a search takes {GREATEST_DELAY} at most"
 
 

@@ -93,7 +93,7 @@ def test_detected_polarisations(tmp_path: Path, polarisations: int, dimensions: 
 def test_one_polarisation_that_is_named(tmp_path: Path) -> None:
     values = noise(50, 16, 4)
     path = write(tmp_path / "a.dada", values.astype(np.uint8).tobytes(), polarisations=4, state="Odd")
-    with pytest.raises(Refusal, match="4 values of a channel, and its STATE is ODD: .* --state, or choose one by --pol"):
+    with pytest.raises(Refusal, match="4 values of a channel, and its STATE is ODD: .* --state, or choose one by"):
         turned(path)
     assert (turned(path, "--pol", "2") == values[:, :, 2:3]).all()
 

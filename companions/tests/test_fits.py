@@ -29,7 +29,7 @@ def packed(values: np.ndarray, bits: int) -> np.ndarray:
 
 def write(path: Path, values: np.ndarray, bits: int = 8, scales: object = 1.0, offsets: object = 0.0,
           weights: object = 1.0, starts: Sequence[float] | None = None, primary: dict[str, object] | None = None,
-          **table: object) -> str:
+          dim: str | None = None, **table: object) -> str:
     """A file of values by row, spectrum, polarisation and channel; rows begin at `starts`, in spectra."""
     rows, in_row, polarisations, channels = values.shape
     begins = np.arange(rows) * in_row if starts is None else np.array(starts)
@@ -46,7 +46,7 @@ def write(path: Path, values: np.ndarray, bits: int = 8, scales: object = 1.0, o
         column("DAT_WTS", "E", weights, channels),
         column("DAT_OFFS", "E", offsets, channels * polarisations),
         column("DAT_SCL", "E", scales, channels * polarisations),
-        fits.Column("DATA", f"{stored.shape[1]}{form}", array=stored),
+        fits.Column("DATA", f"{stored.shape[1]}{form}", array=stored, dim=dim),
     ]
     hdu = fits.BinTableHDU.from_columns(columns, name="SUBINT")
     keywords = {"NPOL": polarisations, "POL_TYPE": {1: "AA+BB", 2: "AABB", 4: "IQUV"}[polarisations], "TBIN": SECONDS,
@@ -117,6 +117,30 @@ def test_scales_that_change_are_applied(tmp_path: Path, capsys: pytest.CaptureFi
     for channel in (0, 8, 15):
         assert np.abs(written[:, channel] - wanted[:, channel]).max() < 3
     assert (written[1400:1600, 2] == 64).all() and (written[600:, 5] == 64).all()
+
+
+def test_a_column_with_its_shape(tmp_path: Path) -> None:
+    values = noise(polarisations=2)
+    psr_fits([write(tmp_path / "a.fits", values, dim="(16,2,100)"), str(tmp_path / "out.dada")])
+    written = Samples([str(tmp_path / "out.dada")]).values(0, 300)
+    assert (written == values.reshape(300, 2, 16).transpose(0, 2, 1)).all()
+
+
+def test_unsigned_values_of_16_bits(tmp_path: Path) -> None:
+    """FITS stores them as signed ones, with a zero."""
+    values = noise(rows=20, bits=16) // 16
+    gains = np.linspace(1, 2, 20)[:, None]
+    stored = np.rint(values / gains[..., None, None]) - 32768
+    path = write(tmp_path / "a.fits", stored, 16, scales=gains)
+    raw = Path(path).read_bytes()
+    place = raw.index(b"TTYPE6")
+    entry = b"TZERO6  =                32768".ljust(80)
+    Path(path).write_bytes(raw[:place] + entry + raw[place:].replace(b" " * 80, b"", 1))
+    with pytest.raises(Refusal):
+        psr_fits([path, str(tmp_path / "out.dada"), "--pol", "1"])
+    psr_fits([path, str(tmp_path / "out.dada")])
+    written = Samples([str(tmp_path / "out.dada")]).values(0, 2000)[..., 0]
+    assert np.corrcoef(written[:, 3], values.reshape(2000, 16)[:, 3])[0, 1] > 0.999
 
 
 def test_channels_without_weight(tmp_path: Path, capsys: pytest.CaptureFixture[str]) -> None:

@@ -59,6 +59,29 @@ KINDS = [("<u1", 1, 1, -400, []), ("<u1", 3, 2, 400, []), ("i1", 1, 2, -400, ["-
          ("<u2", 2, 1, 400, []), (">i2", 1, 2, -400, ["--signed", "--high-byte-first"])]
 
 
+def case_values(kind: str, spectra: int, cells: int, polarisations: int) -> np.ndarray:
+    """Values with channels that never change, that do so once and that have two values, and with a burst."""
+    random, limits = np.random.default_rng(cells), np.iinfo(kind)
+    values = random.normal(limits.min / 2 + limits.max / 2, random.uniform(0, limits.max / 8, cells), (spectra, cells))
+    values[:, 2 * polarisations:3 * polarisations] = limits.max
+    values[:, 3 * polarisations] = [7 if number == 50 else 1 for number in range(spectra)]
+    values[:, 4 * polarisations] = random.integers(0, 2, spectra)
+    values[70:73] += limits.max / 3
+    return values.round().clip(limits.min, limits.max).astype(kind)
+
+
+def case_words(path: Path, case: str, kind: str, average: int, polarisations: int, width: int,
+               form: list[str]) -> tuple[list[str], np.ndarray]:
+    """The words of a case, whose file is made, and the values of the file once they are averaged."""
+    channels, spectra = 11, 131 * average + average - 1
+    bits = 8 * int(kind[-1])
+    made.make(path, channels=channels, spectra=1, delay=0, bits=bits, polarisations=polarisations, width=width)
+    values = case_values(kind, spectra, channels * polarisations, polarisations)
+    path.write_bytes(path.read_bytes()[:4096] + values.tobytes())
+    added = values[:131 * average].reshape(131, average, -1).sum(axis=1, dtype=int)
+    return ["--spectra", "40", "--average", str(average), "--mask", "6,1", *form, *CASES[case][1], str(path)], added
+
+
 @pytest.mark.parametrize("case", CASES)
 @pytest.mark.parametrize("kind, average, polarisations, width, form", KINDS)
 def test_what_is_written_is_what_the_definition_says(
@@ -66,30 +89,34 @@ def test_what_is_written_is_what_the_definition_says(
         width: int, form: list[str]) -> None:
     monkeypatch.setattr(level, "VALUES_AT_A_TIME", 300)
     monkeypatch.setattr(level, "CELLS_FOR_ROWS", 20)
-    channels, spectra, bits = 11, 131 * average + average - 1, 8 * int(kind[-1])
-    path = tmp_path / "made.dada"
-    made.make(path, channels=channels, spectra=1, delay=0, bits=bits, polarisations=polarisations, width=width)
-    cells = channels * polarisations
-    random = np.random.default_rng(len(case) + bits)
-    limits = np.iinfo(kind)
-    values = random.normal(limits.min / 2 + limits.max / 2, random.uniform(0, limits.max / 8, cells), (spectra, cells))
-    # a channel that never changes, one that does so once, one of two values, and a burst
-    values[:, 2 * polarisations:3 * polarisations] = limits.max
-    values[:, 3 * polarisations] = [7 if number == 50 else 1 for number in range(spectra)]
-    values[:, 4 * polarisations] = random.integers(0, 2, spectra)
-    values[70:73] += limits.max / 3
-    values = values.round().clip(limits.min, limits.max).astype(kind)
-    path.write_bytes(path.read_bytes()[:4096] + values.tobytes())
-    settings, words = CASES[case]
-    kept = np.ones((channels, polarisations), bool)
+    words, added = case_words(tmp_path / "made.dada", case, kind, average, polarisations, width, form)
+    kept = np.ones((11, polarisations), bool)
     kept[[1, 6]] = False
+    bits = 8 * int(kind[-1])
     usual = level.LEVELS[bits]
     reference = Reference(**{"mean": usual.mean, "deviation": usual.deviation, "most": usual.most, "stretch": 40,
-                             "kept": kept.reshape(-1).tolist()} | settings)
-    added = values[:131 * average].reshape(131, average, cells).sum(axis=1, dtype=int)
-    written = made.levelled(str(path), "--spectra", "40", "--average", str(average), "--mask", "6,1", *form, *words)
-    out_bits = 8 if case == "fast" else bits
-    assert values_of(written, out_bits, cells).tolist() == reference.written(added.tolist())
+                             "kept": kept.reshape(-1).tolist()} | CASES[case][0])
+    written = values_of(made.levelled(*words), 8 if case == "fast" else bits, 11 * polarisations)
+    assert written.tolist() == reference.written(added.tolist())
+
+
+def proved_program() -> str | None:
+    """The psr_level of Rattle, if it is on the PATH."""
+    for folder in os.get_exec_path():
+        path = Path(folder) / "psr_level"
+        if path.is_file() and path.read_bytes()[:4] == b"\x7fELF":
+            return str(path)
+    return None
+
+
+@pytest.mark.skipif(proved_program() is None, reason="there is no psr_level of Rattle on the PATH")
+@pytest.mark.parametrize("case", CASES)
+@pytest.mark.parametrize("kind, average, polarisations, width, form", KINDS)
+def test_the_proved_program_writes_the_same(tmp_path: Path, case: str, kind: str, average: int, polarisations: int,
+                                            width: int, form: list[str]) -> None:
+    words, _ = case_words(tmp_path / "made.dada", case, kind, average, polarisations, width, form)
+    answer = subprocess.run([str(proved_program()), *words], capture_output=True)
+    assert (answer.returncode, answer.stderr) == (0, b"") and answer.stdout == made.levelled(*words)
 
 
 def test_spectra_that_are_too_bright_for_64_bits() -> None:
@@ -309,7 +336,8 @@ def parts_of(path: str, folder: Path, places: list[int]) -> list[str]:
     names = []
     for first, stop in zip([0, *places], [*places, len(data)]):
         names.append(str(folder / f"part{first}.dada"))
-        Path(names[-1]).write_bytes(head.replace(b"OBS_OFFSET 0\n", b"OBS_OFFSET %d\n" % first)[:4096] + data[first:stop])
+        text = head.replace(b"OBS_OFFSET 0\n", b"OBS_OFFSET %d\n" % first)[:4096]
+        Path(names[-1]).write_bytes(text + data[first:stop])
     return names
 
 

@@ -192,8 +192,8 @@ def test_deviations_that_do_not_follow_the_means(tmp_path: Path, capsys: pytest.
 
 
 def rolled_off(path: Path, tones: dict[int, float], gains: float = 0.0) -> Samples:
-    """A band of 512 channels whose gain falls at both edges, with a drift, and tones that come and go in channels, which
-    raise their deviation by a factor. Gains of neighbours differ by a part."""
+    """A band of 512 channels that is rolled off at both edges and drifts. Tones that come and go raise deviations by
+    factors. Gains of neighbours differ by a part."""
     made.make(path, channels=512, spectra=1, delay=0)
     random = np.random.default_rng(5)
     places = np.linspace(-1, 1, 512)
@@ -361,7 +361,7 @@ def test_a_delay_past_all_averages(tmp_path: Path, capsys: pytest.CaptureFixture
     path = tmp_path / "made.dada"
     made.make(path, channels=4, spectra=2**20, height=0, delay=0)
     lines = said(capsys, str(path), "26000")
-    assert lines["delay"].endswith("and psr_level averages up to 64 spectra: average twice")
+    assert lines["delay"].endswith("of up to 64 averaged spectra: average twice")
     assert not {"words", "wider", "hunt"} & set(lines) and "file size" in lines
 
 
