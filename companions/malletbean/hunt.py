@@ -123,8 +123,8 @@ def first_plan(asked: argparse.Namespace, paths: Sequence[str], converter: str |
         samples = Samples(paths)
         look = looked_at(samples, mask_of(asked))
         return hunt_of(asked, paths, paths, look), look.head
-    head, look = planned_header(converter, paths)
-    return hunt_of(asked, paths, [CONVERTED], replace(look, head=head)), head
+    look = planned_header(converter, paths, mask_of(asked))
+    return hunt_of(asked, paths, [CONVERTED], look), look.head
 
 
 def mask_of(asked: argparse.Namespace) -> str | None:
@@ -202,8 +202,12 @@ def hunt_folder(path: str) -> Iterator[str]:
             fcntl.flock(place, fcntl.LOCK_EX | fcntl.LOCK_NB)
         except OSError as fault:
             raise Refusal(OUTPUT, f"{path} is in use by another psr_hunt") from fault
-        if not os.path.exists(os.path.join(folder, NAME)) and os.listdir(folder) not in ([], [CONVERTED]):
-            raise Refusal(OUTPUT, f"{path} is there already, and no hunt: name a new folder")
+        clear_unfinished(folder)
+        if not os.path.exists(os.path.join(folder, NAME)):
+            # a hunt that was stopped before it had a plan left this at most
+            remove(os.path.join(folder, CONVERTED))
+            if os.listdir(folder):
+                raise Refusal(OUTPUT, f"{path} is there already, and no hunt: name a new folder")
         yield folder
     finally:
         os.close(place)
@@ -221,8 +225,7 @@ def begun_hunt(asked: argparse.Namespace, folder: str, paths: Sequence[str], con
     own = list(paths)
     if converter is not None:
         own = [CONVERTED]
-        if not os.path.exists(os.path.join(folder, CONVERTED)):
-            converted(conversion(converter, paths, os.path.join(folder, CONVERTED)))
+        converted(conversion(converter, paths, os.path.join(folder, CONVERTED)))
     look = looked_at(Samples([os.path.join(folder, path) for path in own]), mask_of(asked))
     hunt = replace(hunt_of(asked, paths, own, look), programs=programs_of(converter))
     write_manifest(folder, hunt)
@@ -294,7 +297,6 @@ class Running:
 
 def run_hunt(asked: argparse.Namespace, folder: str, hunt: Hunt, begun: float) -> None:
     """Runs what is not there yet, and says what was found."""
-    clear_unfinished(folder)
     head = Samples([os.path.join(folder, path) for path in hunt.observation.paths], hunt.mask).header
     head = replace(head, data_bytes=hunt.observation.spectra * head.spectrum_bytes)
     running = Running(folder, hunt, head, asked.cores)

@@ -1,25 +1,33 @@
 """What a hunt is given: the files of one observation, turned into a DADA file if they are none, and looked at."""
 from __future__ import annotations
 
+import io
 import os
 import subprocess
 import sys
 import tempfile
-from collections.abc import Sequence
+from collections.abc import Iterator, Sequence
+from contextlib import redirect_stderr, redirect_stdout
 from dataclasses import dataclass, replace
 
 import numpy as np
 
+from .arrays import Array
 from .bad_channels import file_numbers, stand_out
 from .cluster import scripts
-from .headers import Header
+from .conversion import Values, convert
+from .headers import TAKEN, Header, fields_of, header_text
 from .masks import mask_text
 from .noise import FORM_WORDS, form_of, measure
-from .refusal import HEADER, OUTPUT, Refusal, bytes_of, opened
+from .number import scaled
+from .refusal import HEADER, OUTPUT, READ, Refusal, bytes_of, opened
 from .samples import Samples
 
 # how other files begin, and which companion turns them into a DADA file
 CONVERTERS = ((4, b"HEADER_START", "psr_fil"), (0, b"SIMPLE  =", "psr_fits"))
+# what a search takes of a DADA file; psr_dada turns others
+SEARCHED = {"NBIT": ("8", "16"), "NPOL": ("1", "2"), "NDIM": ("1",), "ORDER": ("TFP", "TF")}
+MOST_CHANNELS = TAKEN["NCHAN"][-1]
 # how much is looked at, and how much of a filterbank is turned to plan a hunt
 LOOKED_AT, TRIED = 64_000_000, 2**25
 
@@ -34,14 +42,25 @@ class Look:
 
 
 def converter_of(paths: Sequence[str]) -> str | None:
-    """The companion that turns these files into a DADA file; None if they are DADA files."""
-    found = []
-    for path in paths:
-        front = bytes_of(path, 16)
-        found.append(next((name for place, mark, name in CONVERTERS if front[place:].startswith(mark)), None))
+    """The companion that turns these files into a DADA file; None if they are ones that a search takes."""
+    found = [converter_of_one(path) for path in paths]
     if len(set(found)) > 1:
         raise Refusal(HEADER, f"{paths[0]} and the files after it are of several forms: give those of one observation")
     return found[0]
+
+
+def converter_of_one(path: str) -> str | None:
+    """The companion that turns one file."""
+    if os.path.exists(path) and not os.path.isfile(path):
+        raise Refusal(READ, f"can't read {path}: it has to be a file")
+    front = bytes_of(path, 16)
+    for place, mark, name in CONVERTERS:
+        if front[place:].startswith(mark):
+            return name
+    fields = fields_of(header_text(path)[0])
+    is_searched = all(fields.get(keyword, taken[0]) in taken for keyword, taken in SEARCHED.items())
+    channels = scaled(fields.get("NCHAN", "0"), 0) or 0
+    return None if is_searched and channels <= MOST_CHANNELS else "psr_dada"
 
 
 def companion(name: str) -> str:
@@ -63,29 +82,56 @@ def converted(words: Sequence[str]) -> None:
     sys.stderr.write(answer.stderr)
 
 
-def tried(converter: str, paths: Sequence[str], folder: str) -> tuple[Samples, float]:
-    """The samples of the front of the first file, turned into a DADA file in a folder, and how many times more bytes
-    all files have."""
+def tried(converter: str, paths: Sequence[str], folder: str) -> tuple[Samples, int]:
+    """A part of the samples, turned into a DADA file in a folder, and how many spectra all files have, about."""
     front, output = os.path.join(folder, "front"), os.path.join(folder, "front.dada")
-    size = sum(os.path.getsize(path) for path in paths)
-    if converter != "psr_fil":
-        # a file of FITS can't be cut anywhere
-        converted(conversion(converter, paths[:1], output))
-        return Samples([output]), size / max(1, os.path.getsize(paths[0]))
+    if converter == "psr_fits":
+        # such a file can't be cut anywhere
+        spectra = tried_fits(paths, output)
+        return Samples([output]), spectra
     with opened(paths[0]) as file, open(front, "wb") as cut:
         some = file.read(TRIED)
         cut.write(some)
     converted(conversion(converter, [front], output))
-    return Samples([output]), size / max(1, len(some))
+    samples = Samples([output])
+    return samples, int(samples.spectra * sum(map(os.path.getsize, paths)) / len(some))
 
 
-def planned_header(converter: str, paths: Sequence[str]) -> tuple[Header, Look]:
-    """The header that the DADA file of these files will have, about, and a look at the front of the first one."""
+class Sampled:
+    """Pieces of the values of an observation in place of all."""
+
+    def __init__(self, values: Values) -> None:
+        self.bits, self._pieces = values.bits, values.sampled() or []
+
+    def pieces(self) -> Iterator[Array]:
+        """The pieces in order."""
+        return iter(self._pieces)
+
+    def sampled(self) -> Sequence[Array]:
+        """The pieces once more."""
+        return self._pieces
+
+
+def tried_fits(paths: Sequence[str], output: str) -> int:
+    """Turns pieces of PSRFITS files, and answers how many spectra the files have."""
+    try:
+        # astropy is needed for these files alone
+        from .fits import Observation, Rows, chosen_polarisations
+    except ImportError as missing:
+        raise Refusal(READ, f"{missing}: PSRFITS needs astropy (Debian: python3-astropy)") from missing
+    files = [Rows(path) for path in paths]
+    observation = Observation(files, chosen_polarisations(files[0].layout, None))
+    with redirect_stdout(io.StringIO()), redirect_stderr(io.StringIO()):
+        convert("psr_fits", output, observation.observed(), Sampled(observation))
+    return sum(len(rows) * rows.layout.in_row for rows in files)
+
+
+def planned_header(converter: str, paths: Sequence[str], mask: str | None) -> Look:
+    """A look at a part of the samples, with the header that the DADA file of these files will have, about."""
     with tempfile.TemporaryDirectory(prefix="psr_hunt.") as folder:
-        samples, times = tried(converter, paths, folder)
-        look = looked_at(samples, None)
-        spectra = int(samples.spectra * times)
-        return replace(look.head, data_bytes=spectra * look.head.spectrum_bytes), look
+        samples, spectra = tried(converter, paths, folder)
+        look = looked_at(samples, mask)
+        return replace(look, head=replace(look.head, data_bytes=spectra * look.head.spectrum_bytes))
 
 
 def looked_at(samples: Samples, mask: str | None) -> Look:

@@ -249,7 +249,7 @@ def test_too_little_room(observation: str, tmp_path: Path, monkeypatch: pytest.M
     (["FILE", "--dm", "0", "9", "-o", "FOLDER", "--mask", "64"], 12, "mask refused"),
     (["FILE", "--dm", "0", "9", "-o", "FOLDER", "--slurm", "--parallel", ""], 2, "not allowed with"),
     (["/nowhere/a.dada", "--dm", "0", "9", "-o", "FOLDER"], 6, "can't read /nowhere/a.dada"),
-    (["/dev/null", "--dm", "0", "9", "-o", "FOLDER"], 6, "can't read /dev/null"),
+    (["/dev/null", "--dm", "0", "9", "-o", "FOLDER"], 6, "can't read /dev/null: it has to be a file"),
     ([__file__, "--dm", "0", "9", "-o", "FOLDER"], 3, "refused: "),
     (["FILE", "--dm", "0", "9", "-o", "FILE"], 10, "can't make "),
 ])
