@@ -23,6 +23,8 @@ VALUES_AT_A_TIME = 2**20
 VALUES_TO_LEVEL_BY = 2**23
 # they come from so many pieces at the most, each of so many spectra at least
 MOST_PIECES, LEAST_PIECE = 64, 128
+# the most channels that are added into one
+MOST_JOINED = 4096
 # day 0 of MJD
 DAY_ZERO = datetime(1858, 11, 17)
 PICOSECONDS = 10**12
@@ -90,10 +92,12 @@ def convert(program: str, output: str, observed: Observed, values: Values, said:
 def channels_to_join(path: str, channels: int) -> int:
     """How many neighbouring channels are added into one, so that a search takes them."""
     most = TAKEN["NCHAN"][-1]
-    joined = next((count for count in range(1, channels + 1) if channels % count == 0 and channels // count <= most), 1)
-    if channels > most and channels // joined < 2:
+    if channels <= most:
+        return 1
+    numbers = [count for count in range(2, MOST_JOINED + 1) if channels % count == 0 and 2 <= channels // count <= most]
+    if not numbers:
         raise refused(path, f"{channels} channels can't be added to {most} or fewer of the same width")
-    return joined
+    return numbers[0]
 
 
 def with_joined(values: Array, joined: int) -> Array:

@@ -10,7 +10,6 @@ import numpy as np
 from .arrays import Array
 from .conversion import VALUES_AT_A_TIME, VALUES_TO_LEVEL_BY, Observed, convert, even_pieces, native, raised
 from .headers import KEYWORDS, fields_of, header_text, number_of, refused
-from .number import scaled
 from .program import Words
 from .refusal import GAP, WORDS, Refusal
 

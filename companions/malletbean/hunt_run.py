@@ -227,10 +227,10 @@ def stop(processes: Sequence[subprocess.Popen[bytes]]) -> None:
 
 
 def clear_unfinished(folder: str) -> None:
-    """Removes what jobs of this machine left that were killed."""
-    unfinished = re.compile(rf".*\.{re.escape(socket.gethostname())}\.([0-9]+)(\.counted)?")
+    """Removes what jobs of this machine and companions left that were killed: files with the number of a process."""
+    unfinished = re.compile(rf".*\.{re.escape(socket.gethostname())}\.([0-9]+)(?:\.counted)?|\.([0-9]+)\..*")
     for place, _, names in os.walk(folder):
         for name in names:
             match = unfinished.fullmatch(name)
-            if match and not os.path.exists(f"/proc/{match[1]}"):
+            if match and not os.path.exists(f"/proc/{match[1] or match[2]}"):
                 os.unlink(os.path.join(place, name))

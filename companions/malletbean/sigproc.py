@@ -4,7 +4,7 @@ from __future__ import annotations
 import struct
 from collections.abc import Mapping
 
-from .fil import TELESCOPES
+from .filterbank import TELESCOPES
 from .grouping import DAY, DAY_ZERO
 from .headers import Header
 

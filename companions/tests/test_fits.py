@@ -202,6 +202,17 @@ def test_what_is_refused(tmp_path: Path, more: dict[str, object], line: str) -> 
     assert refusal.value.status == 3 and line in refusal.value.line and not (tmp_path / "out.dada").exists()
 
 
+@pytest.mark.parametrize("card", [b"TFORM3  ", b"TTYPE6  ", b"TBIN    ", b"NSBLK   "])
+def test_damaged_headers(tmp_path: Path, card: bytes) -> None:
+    path = Path(write(tmp_path / "a.fits", noise()))
+    raw = path.read_bytes()
+    place = raw.index(card)
+    path.write_bytes(raw[:place] + (card + b"= 'a\xff").ljust(80) + raw[place + 80:])
+    with pytest.raises(Refusal) as refusal:
+        psr_fits([str(path), str(tmp_path / "out.dada")])
+    assert refusal.value.status == 3 and "\n" not in refusal.value.line
+
+
 def test_polarisations_of_an_unknown_kind(tmp_path: Path) -> None:
     with pytest.raises(Refusal, match="4 polarisations of POL_TYPE RLXX: choose one by --pol K"):
         psr_fits([write(tmp_path / "a.fits", noise(polarisations=4), POL_TYPE="RLXX"), str(tmp_path / "out.dada")])

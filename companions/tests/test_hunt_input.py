@@ -85,6 +85,16 @@ def test_hunts_are_the_same(forms: dict[str, list[str]], tmp_path: Path, monkeyp
 
 
 @needs_search
+def test_stopped_while_it_is_turned(forms: dict[str, list[str]], tmp_path: Path, monkeypatch: pytest.MonkeyPatch) -> None:
+    folder = tmp_path / "hunt"
+    folder.mkdir()
+    (folder / ".99999999.observation.dada").write_text("a part")
+    (folder / "observation.dada").write_text("of other files")
+    assert hunted(monkeypatch, *forms["psr_fil"], "--dm", "0", "20", "-o", str(folder)) == 0
+    assert not [path for path in folder.iterdir() if path.name.endswith("observation.dada")]
+
+
+@needs_search
 def test_wide_numbers_are_hunted(forms: dict[str, list[str]], tmp_path: Path, monkeypatch: pytest.MonkeyPatch) -> None:
     words = [*forms["psr_dada"], "--dm", "0", "20", "-o", str(tmp_path / "hunt")]
     assert hunted(monkeypatch, *words) == 0
