@@ -11,9 +11,9 @@ import numpy as np
 
 from .arrays import Array
 from .conversion import PICOSECONDS, VALUES_AT_A_TIME, VALUES_TO_LEVEL_BY, Observed, convert, even_pieces, raised
+from .filterbank import KIND_NAMES, KINDS, Filterbank, Source
 from .program import Words
 from .refusal import WORDS, Refusal, opened
-from .filterbank import KIND_NAMES, KINDS, Filterbank, Source
 
 # what files of one observation have in common
 COMMON = ("channels", "bits", "ifs", "is_signed", "seconds", "first", "step")
