@@ -45,9 +45,9 @@ def proved() -> list[Interface]:
 
 
 def others() -> list[Interface]:
-    """The companions and the scripts of cluster/, by what `--help` prints."""
+    """The companions and the scripts of cluster/, by what `--help` prints; a proved program takes a companion's place."""
     programs = {path.name: path for path in sorted((ROOT / "companions").glob("psr_*"))} | SCRIPTS
-    return [of_help(name, help_of(path)) for name, path in programs.items()]
+    return [of_help(name, help_of(path)) for name, path in programs.items() if name not in reference().programs]
 
 
 def help_of(path: Path) -> str:
