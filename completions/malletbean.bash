@@ -29,8 +29,8 @@ _malletbean() { # _malletbean COMMAND WORD PREVIOUS_WORD
         psr_fil) options='--if --keyword' ;;
         psr_fits) options='--pol' ;;
         psr_hunt)
-            options='--dm --output --snr --widths --mask --clip --cores --slurm --parallel --periods --keep --dry-run'
-                ;;
+            options='--dm --output --snr --widths --mask --clip --keep-bursts --cores --slurm --parallel --periods
+                --keep --dry-run' ;;
         psr_level)
             options='--spectra --average --mask --clip --zero-dm --mean --deviation --most --fast --signed
                 --high-byte-first --max-bytes' ;;
@@ -46,11 +46,11 @@ _malletbean() { # _malletbean COMMAND WORD PREVIOUS_WORD
     case $program:$at:$previous in # what stands first, and the values of options
         psr_part:1:* | psr_beams:1:*) names='' ;;
         psr_search:*:--record | psr_cut:*:--next | psr_dada:*:--signed | psr_dada:*:--high-byte-first | \
-            psr_fil:*:--keyword | psr_hunt:*:--output | psr_hunt:*:--slurm | psr_hunt:*:--keep | psr_hunt:*:--dry-run \
-            | psr_level:*:--zero-dm | psr_level:*:--fast | psr_level:*:--signed | psr_level:*:--high-byte-first | \
-            psr_look:*:--channels | psr_plot:*:--part | psr_plot:*:--output | psr_plot:*:--show | psr_plot:*:--next | \
-            psr_series:*:--output | psr_series:*:--next | psr_table:*:--part | psr_table:*:--output | \
-            psr_table:*:--folds)
+            psr_fil:*:--keyword | psr_hunt:*:--output | psr_hunt:*:--keep-bursts | psr_hunt:*:--slurm | \
+            psr_hunt:*:--keep | psr_hunt:*:--dry-run | psr_level:*:--zero-dm | psr_level:*:--fast | \
+            psr_level:*:--signed | psr_level:*:--high-byte-first | psr_look:*:--channels | psr_plot:*:--part | \
+            psr_plot:*:--output | psr_plot:*:--show | psr_plot:*:--next | psr_series:*:--output | psr_series:*:--next \
+            | psr_table:*:--part | psr_table:*:--output | psr_table:*:--folds)
             names=yes ;;
         psr_search:*:--widths | psr_mask:*:--widths | psr_part:*:--widths | psr_beams:*:--widths | \
             psr_plan:*:--widths)
