@@ -5,6 +5,7 @@ from collections.abc import Iterator
 
 import numpy as np
 
+from .arrays import Array
 from .headers import Header
 from .paths import box_noise_cells, fold_noise_cells, fold_places, path_cells, shared_cells
 from .texts import Found, refused
@@ -26,17 +27,17 @@ def check_fits(path: str, found: Found, head: Header, mean: float, deviation: fl
             raise refused(path, "some of its ratios are below 0: MEAN and SD are not those of its search")
 
 
-def printed_ratio(lines: np.ndarray, mean: float, deviation: float) -> np.ndarray:
+def printed_ratio(lines: Array, mean: float, deviation: float) -> Array:
     """The ratio by which the search judges: all samples of a sum are taken to be independent."""
     return (lines["sum"] - lines["cells"] * mean) / (deviation * np.sqrt(lines["cells"]))
 
 
-def true_ratio(lines: np.ndarray, noise_cells: np.ndarray, mean: float, deviation: float) -> np.ndarray:
+def true_ratio(lines: Array, noise_cells: Array, mean: float, deviation: float) -> Array:
     """The ratio to the true noise of the sums, which count the samples that their path sums share several times."""
     return (lines["sum"] - lines["cells"] * mean) / (deviation * np.sqrt(noise_cells))
 
 
-def pulse_noise_cells(pulses: np.ndarray, head: Header) -> np.ndarray:
+def pulse_noise_cells(pulses: Array, head: Header) -> Array:
     """For each PULSE line: how many independent samples have the noise of its box."""
     delays = np.unique(pulses["delay"])
     widths = np.unique(pulses["width"])
@@ -46,7 +47,7 @@ def pulse_noise_cells(pulses: np.ndarray, head: Header) -> np.ndarray:
     return table[np.searchsorted(delays, pulses["delay"]), np.searchsorted(widths, pulses["width"])]
 
 
-def fold_noise(folds: np.ndarray, head: Header) -> np.ndarray:
+def fold_noise(folds: Array, head: Header) -> Array:
     """For each FOLD line: how many independent samples have the noise of its fold."""
     delays = np.unique(folds["delay"])
     shares = shared_by_delay(head, delays)
@@ -62,35 +63,35 @@ def fold_noise(folds: np.ndarray, head: Header) -> np.ndarray:
     return noise
 
 
-def cells_by_delay(head: Header, delays: np.ndarray) -> np.ndarray:
+def cells_by_delay(head: Header, delays: Array) -> Array:
     """For each delay how many samples its path sums add, in channels that are not masked."""
     if not head.masked:
         return head.channels + delays.astype(np.int64)
     return np.concatenate([cells.sum(axis=0) for cells in kept_cells(head, delays)])
 
 
-def kept_cells(head: Header, delays: np.ndarray) -> Iterator[np.ndarray]:
+def kept_cells(head: Header, delays: Array) -> Iterator[Array]:
     """For some delays at a time how many samples their path sums take in each channel that is not masked."""
     for part in np.array_split(delays, len(delays) // DELAYS_AT_A_TIME + 1):
         yield path_cells(head.edges_khz, part)[head.kept]
 
 
-def shared_by_delay(head: Header, delays: np.ndarray) -> list[np.ndarray]:
+def shared_by_delay(head: Header, delays: Array) -> list[Array]:
     """For each delay how many samples two of its path sums share, by how far apart they end."""
     return [shared_cells(cells) for part in kept_cells(head, delays) for cells in part.T]
 
 
-def top_spectra(pulses: np.ndarray) -> np.ndarray:
+def top_spectra(pulses: Array) -> Array:
     """The spectrum at which each pulse leaves the top of the band."""
     return pulses["end"] - pulses["delay"]
 
 
-def utc(spectra: np.ndarray, head: Header) -> np.ndarray:
+def utc(spectra: Array, head: Header) -> Array:
     """The time of these spectra, counted from the first one of the file that has the header."""
     return head.start + (spectra * head.sample_ns).astype("timedelta64[ns]")
 
 
-def pulse_table(pulses: np.ndarray, head: Header, mean: float, deviation: float) -> np.ndarray:
+def pulse_table(pulses: Array, head: Header, mean: float, deviation: float) -> Array:
     """PULSE lines with both ratios, the times at the top and the foot of the band in s, and UTC at the top."""
     tops = top_spectra(pulses)
     columns = {
@@ -103,7 +104,7 @@ def pulse_table(pulses: np.ndarray, head: Header, mean: float, deviation: float)
     return with_columns(pulses, columns)
 
 
-def fold_table(folds: np.ndarray, head: Header, mean: float, deviation: float) -> np.ndarray:
+def fold_table(folds: Array, head: Header, mean: float, deviation: float) -> Array:
     """FOLD lines with both ratios and the period in s."""
     columns = {
         "ratio": printed_ratio(folds, mean, deviation),
@@ -113,7 +114,7 @@ def fold_table(folds: np.ndarray, head: Header, mean: float, deviation: float) -
     return with_columns(folds, columns)
 
 
-def with_columns(lines: np.ndarray, columns: dict[str, np.ndarray]) -> np.ndarray:
+def with_columns(lines: Array, columns: dict[str, Array]) -> Array:
     """The lines with further columns behind their own."""
     table = np.empty(len(lines), lines.dtype.descr + [(name, column.dtype.str) for name, column in columns.items()])
     for name in lines.dtype.names:
@@ -123,34 +124,24 @@ def with_columns(lines: np.ndarray, columns: dict[str, np.ndarray]) -> np.ndarra
     return table
 
 
-def are_neighbours(pulses: np.ndarray, one: np.void) -> np.ndarray:
-    """Which boxes cross a box within the band, or pass it no farther off than the wider of the two is wide."""
-    apart = np.maximum(pulses["width"], one["width"]).astype(np.int64)
-    at_foot = pulses["end"] - one["end"]
-    at_top = at_foot - pulses["delay"] + int(one["delay"])
-    is_after = (at_foot - pulses["width"] >= apart) & (at_top - pulses["width"] >= apart)
-    is_before = (at_foot + one["width"] <= -apart) & (at_top + one["width"] <= -apart)
-    return ~(is_after | is_before)
-
-
-def are_near_periods(folds: np.ndarray, one: np.void) -> np.ndarray:
+def are_near_periods(folds: Array, one: np.void) -> Array:
     """Which folds drift by less than a turn against a fold over its rows."""
     periods = folds["period"] + folds["trial"] / (folds["rows"] - 1)
     period = one["period"] + one["trial"] / (one["rows"] - 1)
-    return np.abs(periods - period) * one["rows"] < period
+    return np.less(np.abs(periods - period) * one["rows"], period)
 
 
-def strongest(lines: np.ndarray, ratio: np.ndarray, count: int) -> tuple[np.ndarray, np.ndarray]:
-    """The strongest line of each of the `count` strongest groups of neighbours, and how many lines each group has.
+def strongest(folds: Array, ratio: Array, count: int) -> tuple[Array, Array]:
+    """The strongest line of each of the `count` strongest groups of folds of one period, and how many lines each has.
 
-    The strongest line that is left takes all its neighbours out, and so on.
+    The strongest line that is left takes all of its period out, and so on.
     """
-    are_joined = are_neighbours if "end" in lines.dtype.names else are_near_periods
     left = np.argsort(-ratio, kind="stable")
-    best, sizes = [], []
+    best: list[int] = []
+    sizes: list[int] = []
     while len(left) and len(best) < count:
-        joined = are_joined(lines[left], lines[left[0]])
-        best.append(left[0])
+        joined = are_near_periods(folds[left], folds[left[0]])
+        best.append(int(left[0]))
         sizes.append(int(joined.sum()))
         left = left[~joined]
     return np.array(best, np.int64), np.array(sizes, np.int64)

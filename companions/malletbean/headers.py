@@ -5,12 +5,14 @@ import os
 import re
 from dataclasses import dataclass, replace
 from functools import cached_property
+from typing import BinaryIO
 
 import numpy as np
 
+from .arrays import Array
 from .masks import masked_channels
 from .number import scaled
-from .refusal import HEADER, READ, Refusal, bytes_of
+from .refusal import GAP, HEADER, READ, Refusal, opened, some_of
 
 LEAST_SIZE = 4096
 MOST_SIZE = 65536
@@ -18,9 +20,11 @@ TOP_KHZ = 2**24
 # how files of other forms begin
 OTHER_FORMS = (
     (4, b"HEADER_START", "a SIGPROC filterbank: psr_fil makes a DADA file of it"),
-    (0, b"SIMPLE  =", "a FITS file, and has to be turned into a DADA file first"),
+    (0, b"SIMPLE  =", "a FITS file: psr_fits makes a DADA file of it, if it is a PSRFITS file in search mode"),
 )
-UTC_FORM = re.compile(r"(\d{4}-\d\d-\d\d)-(\d\d:\d\d:\d\d)")
+# the value of a line is its second word
+SECOND_WORD = re.compile(rb"\s*[^\s#]+\s+([^\s#]+)")
+UTC_FORM = re.compile(r"(\d{4}-\d\d-\d\d)-(\d\d:\d\d:\d\d)(\.\d{1,12})?")
 # each keyword with its decimals, and what it is where it is missing; they are judged in this order
 KEYWORDS: dict[str, tuple[int, int | None]] = {
     "NCHAN": (0, None),
@@ -42,6 +46,9 @@ TAKEN: dict[str, range | tuple[int, ...]] = {
     "FREQ": range(1000, 16_000_000_001),
     "OBS_OFFSET": range(10**15 + 1),
 }
+# what the files of one observation have in common, in the order in which it is judged
+IN_COMMON = {"channels": "NCHAN", "bits": "NBIT", "polarisations": "NPOL", "sample_ns": "TSAMP", "centre_hz": "FREQ",
+             "width_hz": "BW", "is_falling": "BW"}
 
 
 @dataclass(frozen=True)
@@ -69,17 +76,17 @@ class Header:
         return replace(self, masked=tuple(sorted(ordered.tolist())))
 
     @property
-    def kept(self) -> np.ndarray:
+    def kept(self) -> Array:
         """The channels that are not left out, counted from the highest frequency."""
         return np.setdiff1d(np.arange(self.channels), np.array(self.masked, int))
 
     @property
-    def are_masked(self) -> np.ndarray:
+    def are_masked(self) -> Array:
         """Which channels are left out, the highest first."""
         return np.isin(np.arange(self.channels), self.masked)
 
     @property
-    def masked_in_file(self) -> np.ndarray:
+    def masked_in_file(self) -> Array:
         """The channels that are left out, counted in the order of the file."""
         masked = np.array(self.masked, int)
         return masked if self.is_falling else self.channels - 1 - masked
@@ -126,14 +133,16 @@ class Header:
 
     @property
     def start(self) -> np.datetime64:
-        """The time of the file's first spectrum: PICOSECONDS after UTC_START begins the observation.
+        """The time of the file's first spectrum. The observation begins PICOSECONDS after UTC_START, unless UTC_START
+        has a fraction of its own.
 
         NaT where the header has no UTC_START of the usual form, or the time is none that numpy counts in nanoseconds.
         """
         match = UTC_FORM.fullmatch(self.fields.get("UTC_START", ""))
         if match is None:
             return np.datetime64("NaT", "ns")
-        picoseconds = scaled(self.fields.get("PICOSECONDS", "0"), 0) or 0
+        later = match[3].ljust(13, "0")[1:] if match[3] else self.fields.get("PICOSECONDS", "0")
+        picoseconds = scaled(later, 0) or 0
         nanoseconds = picoseconds // 1000 + self.offset * self.sample_ns // self.spectrum_bytes
         if not 1970 <= int(match[1][:4]) < 2200 or not 0 <= nanoseconds < 2**61:
             return np.datetime64("NaT", "ns")
@@ -159,7 +168,14 @@ def header(path: str) -> Header:
 
 def header_text(path: str) -> tuple[bytes, int]:
     """The text of a file's header, and how many bytes the header has."""
-    front = bytes_of(path, LEAST_SIZE)
+    with opened(path) as file:
+        text, whole = read_header(path, file)
+    return text, len(whole)
+
+
+def read_header(path: str, file: BinaryIO) -> tuple[bytes, bytes]:
+    """The text of the header with which an open file or pipe begins, and all bytes of it."""
+    front = some_of(path, file, LEAST_SIZE)
     for place, mark, form in OTHER_FORMS:
         if front[place:].startswith(mark):
             raise refused(path, f"it is {form}")
@@ -168,14 +184,14 @@ def header_text(path: str) -> tuple[bytes, int]:
     size = scaled(fields_of(before_nul(front)).get("HDR_SIZE", str(LEAST_SIZE)), 0)
     if size is None or not LEAST_SIZE <= size <= MOST_SIZE:
         raise refused(path, "BadSize")
-    whole = bytes_of(path, size)
+    whole = front + some_of(path, file, size - LEAST_SIZE)
     if len(whole) < size:
         raise refused(path, f"Short {len(whole)}")
     text = before_nul(whole)
     for place, byte in enumerate(text):
         if byte > 127:
             raise refused(path, f"NotText {place}")
-    return text, size
+    return text, whole
 
 
 def before_nul(some: bytes) -> bytes:
@@ -193,6 +209,29 @@ def fields_of(text: bytes) -> dict[str, str]:
     return fields
 
 
+def with_value(text: bytes, key: str, value: str) -> bytes:
+    """The text of a header in which a keyword has another value: in the place of its first one, where that is at least
+    as long, and else in a line at the end."""
+    lines = text.split(b"\n")
+    at = [number for number, line in enumerate(lines) if fields_of(line).keys() == {key}]
+    if at and len(fields_of(lines[at[0]])[key]) >= len(value):
+        lines[at[0]] = overwritten(lines[at[0]], value.encode())
+        return b"\n".join(lines)
+    for number in at:
+        shown = len(lines[number].split(b"#", 1)[0])
+        lines[number] = b" " * shown + lines[number][shown:]
+    text = b"\n".join(lines)
+    line_end = b"" if text.endswith(b"\n") or not text else b"\n"
+    return text + line_end + f"{key} {value}\n".encode()
+
+
+def overwritten(line: bytes, value: bytes) -> bytes:
+    """A line of a header with another value, which is no longer than that of the line."""
+    match = SECOND_WORD.match(line)
+    assert match is not None
+    return line[:match.start(1)] + value.ljust(len(match[1])) + line[match.end(1):]
+
+
 def header_of(path: str, fields: dict[str, str], size: int, data_bytes: int) -> Header:
     """The header of these fields, or the first refusal, in the order of the keywords."""
     numbers: dict[str, int] = {}
@@ -200,7 +239,9 @@ def header_of(path: str, fields: dict[str, str], size: int, data_bytes: int) -> 
         numbers[keyword] = number_of(path, fields, keyword)
         if not is_taken(keyword, numbers):
             fault = "OutOfProfile" if keyword in ("NBIT", "NPOL", "NDIM") else "OutOfRange"
-            raise refused(path, f"{fault} {keyword}")
+            can_be_turned = fault == "OutOfProfile" or keyword == "NCHAN" and numbers[keyword] > TAKEN["NCHAN"][-1]
+            raise refused(path, f"{fault} {keyword}" + (": psr_dada may turn it into a file that is searched"
+                                                       if can_be_turned else ""))
     width, channels = abs(numbers["BW"]), numbers["NCHAN"]
     if width < 1000 * channels:
         raise refused(path, f"TooNarrow {width} {channels}")
@@ -245,6 +286,17 @@ def is_taken(keyword: str, numbers: dict[str, int]) -> bool:
 def edge_khz(centre_hz: int, width_hz: int, channels: int, number: int) -> int:
     """The edge of that number in kHz: 0 is the top of the band, and the number of channels its foot."""
     return (2 * centre_hz * channels + width_hz * channels - 2 * width_hz * number) // (2000 * channels)
+
+
+def check_follows(path: str, first: Header, later: Header, number: int, data_bytes: int) -> None:
+    """Refuses file `number` of an observation, of which the files before it have so many bytes, if it is no part of it.
+    """
+    for name, keyword in IN_COMMON.items():
+        if getattr(later, name) != getattr(first, name):
+            raise refused(path, f"Differs {keyword}")
+    if later.offset != first.offset + data_bytes:
+        expected = first.offset + data_bytes
+        raise Refusal(GAP, f"file {number} ({path}) has OBS_OFFSET {later.offset} where {expected} was expected")
 
 
 def refused(path: str, why: str) -> Refusal:

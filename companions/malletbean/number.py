@@ -24,6 +24,12 @@ def scaled(text: str, decimals: int) -> int | None:
     return -value if sign == "-" else value
 
 
+def decimals_beyond(text: str, decimals: int) -> bool:
+    """Whether a number has more decimals than so many, and one of the further ones is not 0."""
+    match = NUMBER.fullmatch(text)
+    return match is not None and bool((match[3] or "")[decimals:].strip("0"))
+
+
 def multiplied(text: str, factor: Fraction) -> str | None:
     """The number times a factor, with as many decimals as it has, further ones dropped.
 

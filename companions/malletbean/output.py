@@ -1,45 +1,64 @@
-"""Files that a companion makes."""
+"""Files that a companion makes: each is written beside its place, and gets its name once it is whole."""
 from __future__ import annotations
 
 import os
+import sys
 from collections.abc import Iterator
-from contextlib import contextmanager
+from contextlib import contextmanager, suppress
 from typing import BinaryIO
 
 from .refusal import OUTPUT, Refusal
 
 
+def to_standard_output(some: bytes) -> None:
+    """Writes all of some bytes to standard output, also where Python doesn't buffer it."""
+    view = memoryview(some)
+    while view:
+        view = view[sys.stdout.buffer.write(view):]
+    sys.stdout.buffer.flush()
+
+
 @contextmanager
 def new_file(path: str) -> Iterator[BinaryIO]:
-    """A file to write that must not be there yet. Where what writes it fails, it is removed."""
-    try:
-        file = open(path, "xb")
-    except FileExistsError as fault:
-        raise Refusal(OUTPUT, f"can't write {path}: it is there already") from fault
-    except OSError as fault:
-        raise Refusal(OUTPUT, f"can't write {path}: {fault.strerror}") from fault
-    try:
-        with file:
+    """A file to write that must not be there yet. If what writes it fails, nothing is left of it."""
+    if os.path.lexists(path):
+        raise is_there(path)
+    with written_beside(path, path) as beside:
+        with open(beside, "xb") as file:
             yield file
-    except BaseException as fault:
-        os.unlink(path)
-        if isinstance(fault, OSError):
-            raise Refusal(OUTPUT, f"can't write {path}: {fault.strerror}") from fault
-        raise
+        try:
+            # unlike a rename, a link never takes the place of a file that appeared meanwhile
+            os.link(beside, path)
+        except FileExistsError as fault:
+            raise is_there(path) from fault
+        except OSError:
+            # a file system without links
+            os.rename(beside, path)
 
 
 @contextmanager
 def whole_file(path: str) -> Iterator[str]:
-    """The name of a file that takes the place of the one at the path once it is written. Where what writes it fails,
-    the one at the path stays as it was."""
+    """The name of a file that takes the place of the one at the path once it is written. If what writes it fails, the
+    one at the path stays as it was."""
     place = os.path.realpath(path)
-    beside = os.path.join(os.path.dirname(place), f".{os.getpid()}.{os.path.basename(path)}")
-    try:
+    with written_beside(place, path) as beside:
         yield beside
         os.replace(beside, place)
-    except BaseException as fault:
-        if os.path.exists(beside):
+
+
+@contextmanager
+def written_beside(place: str, path: str) -> Iterator[str]:
+    """A name beside a place for a file that is not whole yet; whatever has that name in the end is removed."""
+    beside = os.path.join(os.path.dirname(place), f".{os.getpid()}.{os.path.basename(place)}")
+    try:
+        yield beside
+    except OSError as fault:
+        raise Refusal(OUTPUT, f"can't write {path}: {fault.strerror}") from fault
+    finally:
+        with suppress(OSError):
             os.unlink(beside)
-        if isinstance(fault, OSError):
-            raise Refusal(OUTPUT, f"can't write {path}: {fault.strerror}") from fault
-        raise
+
+
+def is_there(path: str) -> Refusal:
+    """The refusal of a new file that isn't new."""
+    return Refusal(OUTPUT, f"can't write {path}: it is there already")

@@ -5,6 +5,11 @@ from collections.abc import Sequence
 
 import numpy as np
 
+from .arrays import Array
+
+# the greatest delay that a search takes, in spectra
+GREATEST_DELAY = 8192
+
 
 def split(high: int, middle: int, low: int, delay: int) -> int:
     """Of a delay between two edges of the band, the part above a third, rounded to whole spectra, halves up."""
@@ -13,7 +18,7 @@ def split(high: int, middle: int, low: int, delay: int) -> int:
     return (2 * delay * part + whole) // (2 * whole)
 
 
-def delay_paths(edges_khz: Sequence[int], delays: np.ndarray) -> np.ndarray:
+def delay_paths(edges_khz: Sequence[int], delays: Array) -> Array:
     """For each edge of the band, from the top down, and each delay: how many spectra after the top it is passed."""
     channels = len(edges_khz) - 1
     entries = np.zeros((channels + 1, len(delays)), np.int32)
@@ -33,24 +38,24 @@ def delay_paths(edges_khz: Sequence[int], delays: np.ndarray) -> np.ndarray:
     return entries
 
 
-def path_cells(edges_khz: Sequence[int], delays: np.ndarray) -> np.ndarray:
+def path_cells(edges_khz: Sequence[int], delays: Array) -> Array:
     """How many samples a path sum of each delay takes in each channel, the highest channel first."""
     return np.diff(delay_paths(edges_khz, delays), axis=0) + 1
 
 
-def shared_cells(cells: np.ndarray) -> np.ndarray:
+def shared_cells(cells: Array) -> Array:
     """Of the cells per channel of one delay: how many samples two of its path sums share that end 0, 1, .. apart."""
     channels_from = np.bincount(cells)[::-1].cumsum()[::-1]
     return channels_from[1:][::-1].cumsum()[::-1]
 
 
-def box_noise_cells(shared: np.ndarray, width: int) -> int:
+def box_noise_cells(shared: Array, width: int) -> int:
     """How many independent samples have the noise of a box of `width` path sums that share samples so."""
     lags = np.arange(1, min(width, len(shared)))
     return int(width * shared[0] + 2 * ((width - lags) * shared[lags]).sum())
 
 
-def fold_shifts(rows: int, trials: np.ndarray) -> np.ndarray:
+def fold_shifts(rows: int, trials: Array) -> Array:
     """How far each trial (first axis) shifts each of `rows` rows (second axis), in spectra."""
     halvings = rows.bit_length() - 1
     numbers = np.arange(rows)
@@ -61,13 +66,13 @@ def fold_shifts(rows: int, trials: np.ndarray) -> np.ndarray:
     return shifts
 
 
-def fold_places(period: np.ndarray, rows: int, trial: np.ndarray, phase: np.ndarray) -> np.ndarray:
+def fold_places(period: Array, rows: int, trial: Array, phase: Array) -> Array:
     """Of folds of `rows` rows: which path sums of their delay they add, one in each row, counted from the first."""
     shifted = (phase[:, None] + fold_shifts(rows, trial)) % period[:, None]
     return np.arange(rows) * period[:, None] + shifted
 
 
-def fold_noise_cells(shared: np.ndarray, places: np.ndarray) -> np.ndarray:
+def fold_noise_cells(shared: Array, places: Array) -> Array:
     """How many independent samples have the noise of folds that add these path sums (rows along the second axis).
 
     `shared` has a line for each fold; from its last entry on, which is 0, path sums share nothing.

@@ -11,10 +11,11 @@ import numpy as np
 from matplotlib.axes import Axes
 from matplotlib.figure import Figure
 
-from .candidates import check_fits, fold_table, pulse_table
+from .arrays import Array
+from .candidates import fold_table, pulse_table
 from .headers import Header
 from .output import whole_file
-from .program import Words, add_search_words, entries_by, found_by
+from .program import Words, add_search_words, check_entries, check_output, entries_by, only_entry
 from .refusal import OUTPUT, TEXT, WORDS, Refusal
 from .samples import Samples, fold_profile, path_sums_of
 from .texts import Found
@@ -36,9 +37,9 @@ class Picture:
     """What is drawn: the tables of the lines, weaker ones first, and the profile of a fold in S/N with its line."""
 
     title: str
-    pulses: np.ndarray
-    folds: np.ndarray
-    profile: np.ndarray | None
+    pulses: Array
+    folds: Array
+    profile: Array | None
     fold: np.void | None
 
 
@@ -48,9 +49,11 @@ def psr_plot(words: Sequence[str]) -> None:
     samples = Samples([asked.file, *asked.next], asked.mask)
     entries = entries_by(asked)
     if entries[0].is_beam and len(entries) > 1 and asked.fold is None:
+        check_entries("psr_plot", asked, entries, samples.header)
         finish(draw_beams(new_figure(asked.show), asked, samples.header, entries), asked)
         return
-    found = found_by(asked, samples.header)
+    found = only_entry(asked, entries)
+    check_entries("psr_plot", asked, [found], samples.header)
     pulses = pulse_table(found.pulses, samples.header, asked.mean, asked.deviation)
     folds = fold_table(found.folds, samples.header, asked.mean, asked.deviation)
     fold = chosen(folds, asked) if asked.fold is not None else None
@@ -81,8 +84,7 @@ def parsed(words: Sequence[str]) -> argparse.Namespace:
     asked = parser.parse_args(words)
     if asked.output is None and not asked.show:
         raise Refusal(WORDS, "neither -o PICTURE nor --show")
-    if asked.output is not None and not asked.output.endswith(SUFFIXES):
-        raise Refusal(WORDS, f"argument -o: {asked.output} ends in none of {', '.join(SUFFIXES)}")
+    check_output(asked, SUFFIXES)
     if asked.fold not in (None, "best") and not asked.fold.isdecimal():
         raise Refusal(WORDS, f"argument --fold: {asked.fold} is neither a number nor best")
     return asked
@@ -97,7 +99,7 @@ def title_of(asked: argparse.Namespace, head: Header, spectra: int) -> str:
     return ", ".join([*names, os.path.basename(asked.file), length, *start, noise])
 
 
-def chosen(folds: np.ndarray, asked: argparse.Namespace) -> np.void:
+def chosen(folds: Array, asked: argparse.Namespace) -> np.void:
     """The FOLD line whose profile is asked for."""
     if asked.fold == "best" and len(folds):
         return folds[np.argmax(folds["snr"])]
@@ -106,7 +108,7 @@ def chosen(folds: np.ndarray, asked: argparse.Namespace) -> np.void:
     return folds[int(asked.fold)]
 
 
-def profile_of(samples: Samples, fold: np.void, asked: argparse.Namespace) -> np.ndarray:
+def profile_of(samples: Samples, fold: np.void, asked: argparse.Namespace) -> Array:
     """The profile of a fold, made from the data: S/N at each phase by the noise of its line."""
     delay, period, rows, trial = (int(fold[name]) for name in ("delay", "period", "rows", "trial"))
     profile = fold_profile(path_sums_of(samples, delay, rows * period), period, rows, trial)
@@ -160,14 +162,13 @@ def draw_beams(figure: Figure, asked: argparse.Namespace, head: Header, beams: S
     figure.suptitle(title_of(asked, head, max(beam.spectra for beam in beams)), fontsize=9, parse_math=False)
     panels = figure.subplots(1, len(beams), sharex=True, sharey=True, squeeze=False)[0]
     for panel, beam in zip(panels, beams):
-        check_fits(asked.text, beam, head, asked.mean, asked.deviation)
         pulses = by_strength(pulse_table(beam.pulses, head, asked.mean, asked.deviation))
         draw_beam(panel, pulses, f"beam {beam.number}: {len(pulses)} lines, {int(beam.are_marked.sum())} RFI")
     panels[0].set_ylabel("DM / (pc/cm$^3$)")
     return figure
 
 
-def draw_beam(panel: Axes, pulses: np.ndarray, title: str) -> None:
+def draw_beam(panel: Axes, pulses: Array, title: str) -> None:
     """Time against DM of a beam, in circles whose area grows with S/N: marked lines first, then those that are not."""
     panel.set(xlabel="time at the top of the band / s")
     panel.set_title(title, fontsize=9)
@@ -182,7 +183,7 @@ def draw_beam(panel: Axes, pulses: np.ndarray, title: str) -> None:
         panel.legend(fontsize=7, loc="upper right", framealpha=0.3)
 
 
-def draw_snr(panel: Axes, lines: np.ndarray, word: str) -> None:
+def draw_snr(panel: Axes, lines: Array, word: str) -> None:
     """S/N against DM, and the greatest printed ratio of each DM besides."""
     panel.set(xlabel="DM / (pc/cm$^3$)", ylabel="S/N", title=f"{len(lines)} {word} lines")
     if not len(lines):
@@ -199,7 +200,7 @@ def draw_snr(panel: Axes, lines: np.ndarray, word: str) -> None:
     panel.legend(fontsize=7, loc="upper right", framealpha=0.3)
 
 
-def draw_number(panel: Axes, pulses: np.ndarray) -> None:
+def draw_number(panel: Axes, pulses: Array) -> None:
     """How many lines each DM has."""
     panel.set(xlabel="DM / (pc/cm$^3$)", ylabel="PULSE lines of a DM", title="number")
     if not len(pulses):
@@ -210,7 +211,7 @@ def draw_number(panel: Axes, pulses: np.ndarray) -> None:
     panel.set_ylim(bottom=0)
 
 
-def draw_time(panel: Axes, pulses: np.ndarray) -> None:
+def draw_time(panel: Axes, pulses: Array) -> None:
     """Time against DM in circles whose area grows with S/N, and marked lines with an edge."""
     panel.set(xlabel="time at the top of the band / s", ylabel="DM / (pc/cm$^3$)")
     if not len(pulses):
@@ -226,7 +227,7 @@ def draw_time(panel: Axes, pulses: np.ndarray) -> None:
                         f"{CELLS[0]} x {CELLS[1]} cells", fontsize=9)
 
 
-def draw_periods(panel: Axes, folds: np.ndarray) -> None:
+def draw_periods(panel: Axes, folds: Array) -> None:
     """S/N of folds against their period."""
     milliseconds = folds["period_s"] * 1000
     those = strongest_of_cells(milliseconds, folds["snr"])
@@ -235,7 +236,7 @@ def draw_periods(panel: Axes, folds: np.ndarray) -> None:
     panel.set(xlabel="period / ms", ylabel="S/N", title=f"{len(folds)} FOLD lines")
 
 
-def draw_profile(panel: Axes, profile: np.ndarray, fold: np.void) -> None:
+def draw_profile(panel: Axes, profile: Array, fold: np.void) -> None:
     """The profile of a fold over its phase."""
     panel.step(np.arange(len(profile)), profile, where="mid", linewidth=0.8)
     panel.axvline(fold["phase"], color="tab:grey", linewidth=0.6)
@@ -244,19 +245,19 @@ def draw_profile(panel: Axes, profile: np.ndarray, fold: np.void) -> None:
                     f"S/N {fold['snr']:.1f}")
 
 
-def dm_of_delays(lines: np.ndarray) -> np.ndarray:
+def dm_of_delays(lines: Array) -> Array:
     """The dispersion measure of each delay, by the lines."""
     dms = np.zeros(lines["delay"].max() + 1)
     dms[lines["delay"]] = lines["dm"]
     return dms
 
 
-def by_strength(lines: np.ndarray) -> np.ndarray:
+def by_strength(lines: Array) -> Array:
     """The lines, weaker ones first, so that stronger ones are drawn above them."""
     return lines[np.argsort(lines["snr"], kind="stable")]
 
 
-def strongest_of_cells(along: np.ndarray, up: np.ndarray) -> np.ndarray:
+def strongest_of_cells(along: Array, up: Array) -> Array:
     """Of many points that stand weaker ones first, the strongest in each cell of a panel, in their order."""
     if len(along) <= MOST_DRAWN:
         return np.arange(len(along))
@@ -265,7 +266,7 @@ def strongest_of_cells(along: np.ndarray, up: np.ndarray) -> np.ndarray:
     return np.sort(best[best >= 0])
 
 
-def cell_numbers(values: np.ndarray, count: int) -> np.ndarray:
+def cell_numbers(values: Array, count: int) -> Array:
     """In which of `count` cells between the least and the greatest value each of them lies."""
     least, greatest = values.min(), values.max()
     if least == greatest:
@@ -273,7 +274,7 @@ def cell_numbers(values: np.ndarray, count: int) -> np.ndarray:
     return np.minimum(((values - least) * (count / (greatest - least))).astype(np.int64), count - 1)
 
 
-def areas(ratios: np.ndarray) -> np.ndarray:
+def areas(ratios: Array) -> Array:
     """The areas of circles in square points: they grow with S/N, from the least one on."""
     least, greatest = ratios.min(), ratios.max()
     return LEAST_AREA + (GREATEST_AREA - LEAST_AREA) * (ratios - least) / max(greatest - least, LEAST_GROWTH)

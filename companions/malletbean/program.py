@@ -2,32 +2,51 @@
 from __future__ import annotations
 
 import argparse
+import io
 import os
+import signal
 import sys
-from collections.abc import Callable, Sequence
+from collections.abc import Callable, Iterator, Sequence
+from contextlib import contextmanager
+from types import FrameType
+from typing import NoReturn
 
 from .candidates import check_fits
 from .headers import Header
 from .number import scaled
 from .refusal import MEMORY, OUTPUT, TEXT, WORDS, Refusal
+from .settings import SUFFIX, check_settings
 from .texts import Found, read
+
+# the signals that ask a program to end: of a scheduler, of a terminal that closes, and of Ctrl-C
+STOPS = (signal.SIGTERM, signal.SIGHUP, signal.SIGINT)
+# of so many parts with too many pulses it is said where they end
+MOST_NAMED = 8
 
 
 class Words(argparse.ArgumentParser):
     """A parser that says in one line what is wrong with the words."""
 
-    def error(self, message: str) -> None:
+    def error(self, message: str) -> NoReturn:
         """Ends with the status of words."""
         raise Refusal(WORDS, f"{message}; --help lists the words")
 
 
 def run(name: str, program: Callable[[Sequence[str]], None]) -> int:
     """Runs a program over the words of the command, and answers its status."""
-    # a name of a file need not be text
-    sys.stdout.reconfigure(errors="surrogateescape")
+    if isinstance(sys.stdout, io.TextIOWrapper):
+        # a name of a file need not be text
+        sys.stdout.reconfigure(errors="surrogateescape")
     try:
-        program(sys.argv[1:])
-        sys.stdout.flush()
+        with stopped_by_signals():
+            program(sys.argv[1:])
+            sys.stdout.flush()
+    except Stopped as stopped:
+        say(name, 0, f"stopped by {stopped.signal.name}")
+        # who waits for the program has to see that a signal ended it
+        signal.signal(stopped.signal, signal.SIG_DFL)
+        os.kill(os.getpid(), stopped.signal)
+        return 128 + stopped.signal
     except Refusal as refusal:
         return say(name, refusal.status, refusal.line)
     except MemoryError:
@@ -39,6 +58,35 @@ def run(name: str, program: Callable[[Sequence[str]], None]) -> int:
         named = "" if fault.filename is None else f" {fault.filename}"
         return say(name, OUTPUT, f"can't write{named}: {fault.strerror}")
     return 0
+
+
+class Stopped(BaseException):
+    """A signal that asks the program to end."""
+
+    def __init__(self, number: int) -> None:
+        super().__init__(number)
+        self.signal = signal.Signals(number)
+
+
+@contextmanager
+def stopped_by_signals() -> Iterator[None]:
+    """Within it, the signals that ask a program to end raise `Stopped`, so that what is half written is removed."""
+    # nohup ignores SIGHUP, and a shell ignores SIGINT for jobs in the background
+    before = {number: signal.getsignal(number) for number in STOPS}
+    caught = [number for number in STOPS if before[number] != signal.SIG_IGN]
+
+    def stop(number: int, _: FrameType | None) -> None:
+        for caught_one in caught:
+            signal.signal(caught_one, signal.SIG_IGN)
+        raise Stopped(number)
+
+    for number in caught:
+        signal.signal(number, stop)
+    try:
+        yield
+    finally:
+        for number in caught:
+            signal.signal(number, before[number])
 
 
 def say(name: str, status: int, line: str) -> int:
@@ -57,6 +105,17 @@ def add_search_words(words: Words) -> None:
     words.add_argument("--beam", metavar="K", type=int, help="which beam of a text of psr_beams")
     words.add_argument("--mask", metavar="MASK", default="none", help="the mask that psr_mask was given")
     words.add_argument("--part", action="store_true", help="the text is of a part, whose last line counts those before")
+
+
+def check_output(words: argparse.Namespace, suffixes: tuple[str, ...]) -> None:
+    """Refuses an output that ends in none of these, or that is one of the files which the words name as input."""
+    if words.output is None:
+        return
+    if not words.output.endswith(suffixes):
+        raise Refusal(WORDS, f"argument -o: {words.output} ends in none of {', '.join(suffixes)}")
+    for path in (words.file, words.text, words.text + SUFFIX):
+        if os.path.exists(path) and os.path.exists(words.output) and os.path.samefile(path, words.output):
+            raise Refusal(WORDS, f"argument -o: {words.output} is what is read")
 
 
 def noise_value(text: str) -> float:
@@ -81,11 +140,22 @@ def entries_by(words: argparse.Namespace) -> list[Found]:
     return entries
 
 
-def found_by(words: argparse.Namespace, head: Header) -> Found:
+def only_entry(words: argparse.Namespace, entries: Sequence[Found]) -> Found:
     """What the search found in the one observation or beam that the words name."""
-    entries = entries_by(words)
     if len(entries) > 1:
         kind, word = ("beams", "--beam") if entries[0].is_beam else ("observations", "--obs")
         raise Refusal(TEXT, f"{words.text} has {len(entries)} {kind}: choose one with {word} K, K from 0 on")
-    check_fits(words.text, entries[0], head, words.mean, words.deviation)
     return entries[0]
+
+
+def check_entries(name: str, words: argparse.Namespace, entries: Sequence[Found], head: Header) -> None:
+    """Refuses what isn't of this header and noise, and says on standard error what the text leaves out."""
+    check_settings(words.text, head, words.mean, words.deviation)
+    for found in entries:
+        check_fits(words.text, found, head, words.mean, words.deviation)
+        if found.is_growing:
+            say(name, 0, f"{words.text} goes on behind its last CHECK line: it was read up to spectrum {found.spectra}")
+        if len(found.many):
+            ends = ", ".join(map(str, found.many["until"][:MOST_NAMED]))
+            more = f" and {len(found.many) - MOST_NAMED} more" if len(found.many) > MOST_NAMED else ""
+            say(name, 0, f"{words.text} has no pulses of parts that had too many: those that end at {ends}{more}")

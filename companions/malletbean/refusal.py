@@ -1,12 +1,17 @@
 """What a companion says where it can't do what was asked: one line and a status."""
 from __future__ import annotations
 
+from typing import BinaryIO
+
 WORDS = 2
 HEADER = 3
 TEXT = 4
 MEMORY = 5
 READ = 6
+GAP = 7
+MORE = 8
 OUTPUT = 10
+MASK = 12
 
 
 class Refusal(Exception):
@@ -18,10 +23,28 @@ class Refusal(Exception):
         self.line = line
 
 
+def opened(path: str) -> BinaryIO:
+    """A file or a pipe to read."""
+    try:
+        return open(path, "rb")
+    except OSError as fault:
+        raise unread(path, fault) from fault
+
+
+def some_of(path: str, file: BinaryIO, count: int = -1) -> bytes:
+    """The next `count` bytes of an open file or pipe, fewer only at its end; or all that are left."""
+    try:
+        return file.read(count)
+    except OSError as fault:
+        raise unread(path, fault) from fault
+
+
 def bytes_of(path: str, count: int = -1) -> bytes:
     """The first `count` bytes of a file, or all of them."""
-    try:
-        with open(path, "rb") as file:
-            return file.read(count)
-    except OSError as fault:
-        raise Refusal(READ, f"can't read {path}: {fault.strerror}") from fault
+    with opened(path) as file:
+        return some_of(path, file, count)
+
+
+def unread(path: str, fault: OSError) -> Refusal:
+    """The refusal of a file that can't be read."""
+    return Refusal(READ, f"can't read {path}: {fault.strerror}")

@@ -5,14 +5,13 @@ from collections.abc import Sequence
 
 import numpy as np
 
-from .headers import Header, header, refused
+from .arrays import Array
+from .headers import Header, check_follows, header
 from .paths import delay_paths, fold_shifts
 from .refusal import READ, TEXT, Refusal
 
 # how many samples are worked on at a time
 SAMPLES_AT_A_TIME = 2**24
-# what the files of one observation have in common
-COMMON = ("channels", "bits", "polarisations", "sample_ns", "centre_hz", "width_hz", "is_falling")
 
 
 class Samples:
@@ -22,8 +21,8 @@ class Samples:
         self.paths = list(paths)
         self.headers = [header(path).without(mask) for path in self.paths]
         self.begins = [0]
-        for path, later in zip(self.paths, self.headers):
-            self._check(path, later)
+        for number, (path, later) in enumerate(zip(self.paths, self.headers)):
+            check_follows(path, self.headers[0], later, number, self.begins[-1])
             self.begins.append(self.begins[-1] + later.data_bytes)
 
     @property
@@ -36,28 +35,20 @@ class Samples:
         """Whole spectra in all files."""
         return self.begins[-1] // self.header.spectrum_bytes
 
-    def read(self, first: int, count: int) -> np.ndarray:
+    def read(self, first: int, count: int) -> Array:
         """So many spectra from one on, each a row, polarisations added, the highest channel first, masked ones 0."""
         added = self.values(first, count).sum(axis=2, dtype=np.uint32)
-        ordered = added if self.header.is_falling else added[:, ::-1]
+        ordered: Array = added if self.header.is_falling else added[:, ::-1]
         ordered[:, list(self.header.masked)] = 0
         return ordered
 
-    def values(self, first: int, count: int, kind: str = "<u") -> np.ndarray:
+    def values(self, first: int, count: int, kind: str = "<u") -> Array:
         """So many spectra from one on, as the file has them: of each channel in its order, each polarisation."""
         head = self.header
         size = head.spectrum_bytes
         data = b"".join(self._bytes(first * size, (first + count) * size))
-        return np.frombuffer(data, f"{kind}{head.bits // 8}").reshape(-1, head.channels, head.polarisations)
-
-    def _check(self, path: str, later: Header) -> None:
-        first = self.headers[0]
-        for name in COMMON:
-            if getattr(later, name) != getattr(first, name):
-                raise refused(path, f"its {name} differs from that of {self.paths[0]}")
-        expected = first.offset + self.begins[-1]
-        if later.offset != expected:
-            raise refused(path, f"it has OBS_OFFSET {later.offset} where {expected} was expected")
+        values: Array = np.frombuffer(data, f"{kind}{head.bits // 8}").reshape(-1, head.channels, head.polarisations)
+        return values
 
     def _bytes(self, first: int, stop: int) -> list[bytes]:
         """The data bytes from one place up to another, file by file."""
@@ -75,17 +66,17 @@ class Samples:
         return pieces
 
 
-def path_sums(spectra: np.ndarray, entries: np.ndarray) -> np.ndarray:
+def path_sums(spectra: Array, entries: Array) -> Array:
     """The sums along a path with these entries at the edges, for each spectrum at which it can begin among these."""
     count = len(spectra) - int(entries[-1])
     sums = np.zeros(count, np.int64)
     for channel, (enters, leaves) in enumerate(zip(entries, entries[1:])):
-        total = np.concatenate(([0], spectra[:, channel].cumsum(dtype=np.int64)))
+        total: Array = np.append(0, spectra[:, channel].cumsum(dtype=np.int64))
         sums += total[leaves + 1:leaves + 1 + count] - total[enters:enters + count]
     return sums
 
 
-def path_sums_of(samples: Samples, delay: int, count: int) -> np.ndarray:
+def path_sums_of(samples: Samples, delay: int, count: int) -> Array:
     """The first `count` path sums of a delay, from the one that begins at the first spectrum on."""
     if count + delay > samples.spectra:
         raise Refusal(TEXT, f"{count + delay} spectra are needed, and the data have {samples.spectra}: name all files")
@@ -98,7 +89,9 @@ def path_sums_of(samples: Samples, delay: int, count: int) -> np.ndarray:
     return np.concatenate(pieces)
 
 
-def fold_profile(sums: np.ndarray, period: int, rows: int, trial: int) -> np.ndarray:
+def fold_profile(sums: Array, period: int, rows: int, trial: int) -> Array:
     """The fold of path sums at a period and a trial: at each phase the sum of one value of each row."""
     shifts = fold_shifts(rows, np.array([trial]))[0]
-    return sum(np.roll(row, -shift) for row, shift in zip(sums[:rows * period].reshape(rows, period), shifts))
+    shifted = [np.roll(row, -shift) for row, shift in zip(sums[:rows * period].reshape(rows, period), shifts)]
+    profile: Array = np.sum(shifted, axis=0)
+    return profile

@@ -1,11 +1,14 @@
 """Observations as `psr_make` makes them, by numpy."""
 from __future__ import annotations
 
+import io
+from contextlib import redirect_stdout
 from pathlib import Path
 
 import numpy as np
 
 from malletbean.headers import header
+from malletbean.level import psr_level
 from malletbean.paths import delay_paths
 
 HEADER = """HDR_VERSION 1.0
@@ -52,3 +55,18 @@ def make(path: Path, number: int = 0, channels: int = 64, spectra: int = 4096, d
     with path.open("ab") as file:
         file.write(ordered.astype(f"<u{bits // 8}").tobytes())
     return values.sum(axis=2)
+
+
+def level(path: Path | str, out: Path | str, *words: str) -> str:
+    """Makes the file that psr_level writes of another, and answers its name."""
+    Path(out).write_bytes(levelled(str(path), *words))
+    return str(out)
+
+
+def levelled(*words: str) -> bytes:
+    """What psr_level writes."""
+    written = io.BytesIO()
+    with redirect_stdout(io.TextIOWrapper(written)) as text:
+        psr_level(words)
+        text.flush()
+        return written.getvalue()

@@ -1,4 +1,4 @@
-"""Ratios, times and groups of candidates."""
+"""Ratios and times of candidates, and groups of folds."""
 from __future__ import annotations
 
 import numpy as np
@@ -7,12 +7,7 @@ import pytest
 from conftest import DATA
 from malletbean import Refusal, header, read
 from malletbean.candidates import check_fits, fold_table, pulse_table, strongest
-from malletbean.texts import FOLD, PULSE, Found
-
-
-def pulses(*lines: tuple[int, int, int, int]) -> np.ndarray:
-    """PULSE lines of these ends, delays, widths and sums."""
-    return np.array([(b"PULSE", end, delay, 0.0, width, total, 0) for end, delay, width, total in lines], PULSE)
+from malletbean.texts import FOLD, Found
 
 
 def test_ratios_and_times_of_pulses(files: dict[str, str]) -> None:
@@ -52,15 +47,6 @@ def test_a_text_of_another_file_is_refused(files: dict[str, str]) -> None:
         check_fits("text", other, header(files["made"]), 16, 2.828)
 
 
-def test_groups_of_pulses() -> None:
-    """A box that crosses another within the band belongs to its group, and so does one close by at both edges."""
-    lines = pulses((100, 20, 1, 50), (102, 23, 1, 40), (96, 20, 4, 30), (300, 20, 1, 45), (108, 20, 1, 10))
-    best, sizes = strongest(lines, lines["sum"].astype(float), 10)
-    assert best.tolist() == [0, 3, 4]
-    assert sizes.tolist() == [3, 1, 1]
-    assert strongest(lines, lines["sum"].astype(float), 1)[0].tolist() == [0]
-
-
 def test_groups_of_folds() -> None:
     folds = np.zeros(4, FOLD)
     folds["period"], folds["rows"], folds["trial"] = [100, 101, 100, 150], 16, [0, 0, 8, 0]
@@ -70,5 +56,5 @@ def test_groups_of_folds() -> None:
 
 
 def test_nothing_to_group() -> None:
-    best, sizes = strongest(np.empty(0, PULSE), np.empty(0), 3)
+    best, sizes = strongest(np.empty(0, FOLD), np.empty(0), 3)
     assert len(best) == len(sizes) == 0

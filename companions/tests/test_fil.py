@@ -1,7 +1,9 @@
 """What psr_fil makes of SIGPROC filterbanks, and which ones it refuses."""
 from __future__ import annotations
 
+import os
 import struct
+import threading
 from pathlib import Path
 
 import numpy as np
@@ -80,18 +82,122 @@ def test_signed_values(tmp_path: Path, bits: int) -> None:
     assert written.tolist() == (values.astype(int) + 2 ** (bits - 1)).tolist()
 
 
-def test_floats(tmp_path: Path, monkeypatch: pytest.MonkeyPatch, capsys: pytest.CaptureFixture[str]) -> None:
-    monkeypatch.setattr(fil, "VALUES_TO_LEVEL_BY", 64 * 2000)
-    noise = np.random.default_rng(3).normal(size=(4000, 64)).astype(np.float32)
-    values = noise * np.linspace(1e-3, 2e-3, 64, dtype=np.float32) + 5
-    values[:, 9] *= 40
+def noise_and_file(path: Path, spectra: int = 4000) -> tuple[np.ndarray, np.ndarray]:
+    """Noise of deviation 1, and the same with another mean and gain in each channel, as floats."""
+    noise = np.random.default_rng(3).normal(size=(spectra, 64)).astype(np.float32)
+    return noise, noise * np.linspace(1, 2, 64, dtype=np.float32) + np.linspace(90, 120, 64, dtype=np.float32)
+
+
+def turned(path: Path, values: np.ndarray) -> np.ndarray:
+    """What psr_fil makes of floats."""
+    out = path.with_suffix(".dada")
+    psr_fil([write(path, values.astype("<f4").tobytes(), nbits=32), str(out)])
+    return Samples([str(out)]).read(0, len(values)).astype(int)
+
+
+def test_floats(tmp_path: Path, capsys: pytest.CaptureFixture[str]) -> None:
+    noise, values = noise_and_file(tmp_path)
+    values[:, 9] = values[:, 9] * 40
     values[0, 7], values[1, 7], values[:, 8] = np.nan, np.inf, 3
-    psr_fil([write(tmp_path / "a.fil", values.tobytes(), nbits=32), str(tmp_path / "out.dada")])
-    written = Samples([str(tmp_path / "out.dada")]).read(0, 4000)
-    assert written[:2, 7].tolist() == [64, 64] and np.all(written[:, 8] == 64)
+    written = turned(tmp_path / "a.fil", values)
+    assert np.abs(written[:2, 7] - 64).max() <= 1 and np.all(written[:, 8] == 64)
     usual = np.delete(np.arange(64), (7, 8))
-    assert np.abs(written[:, usual] - (64 + 8 * noise[:, usual])).max() < 2.5
-    assert "the mean 64 and the deviation 8 in 8 bits now; mask to try: 8-9\n" in capsys.readouterr().out
+    assert np.abs(written[:, usual] - (64 + 8 * noise[:, usual])).max() < 3
+    said = capsys.readouterr()
+    assert "; 0 of 256000 values were cut, and 2 that are no numbers became the mean; mask to try: 8-9\n" in said.out
+    assert said.err == ""
+
+
+@pytest.mark.parametrize("front", ["zeros", "unknown", "a spectrum of 1e30", "ten of interference"])
+def test_floats_whose_beginning_tells_nothing(tmp_path: Path, capsys: pytest.CaptureFixture[str], front: str) -> None:
+    noise, values = noise_and_file(tmp_path)
+    if front == "zeros":
+        values[:500] = 0
+    elif front == "unknown":
+        values[:500] = np.nan
+    elif front == "a spectrum of 1e30":
+        values[0] = 1e30
+    else:
+        values[:10] *= 50
+    written = turned(tmp_path / "a.fil", values)
+    assert np.abs(written[500:] - (64 + 8 * noise[500:])).max() < 3
+    warning = "values were cut" in capsys.readouterr().err
+    assert warning == (front in ("zeros", "ten of interference"))
+
+
+@pytest.mark.parametrize("place, step", [(0.1, 3), (0.5, 3), (0.9, 3), (0.5, 0.2), (0.9, 0.2)])
+def test_a_step_of_gain(tmp_path: Path, capsys: pytest.CaptureFixture[str], place: float, step: float) -> None:
+    """Few values are cut, and each part keeps enough digits; so that it can be levelled."""
+    noise, values = noise_and_file(tmp_path)
+    first = int(place * 4000)
+    values[first:] *= step
+    written = turned(tmp_path / "a.fil", values)
+    assert (written == 255).sum() + (written == 0).sum() < 0.0001 * written.size
+    for part, truth in ((written[:first], noise[:first]), (written[first:], noise[first:])):
+        for channel in (0, 33, 63):
+            if len(part) > 200:
+                assert np.corrcoef(part[:, channel], truth[:, channel])[0, 1] > 0.85
+    assert capsys.readouterr().err == ""
+
+
+def test_a_pipe_of_floats(tmp_path: Path, monkeypatch: pytest.MonkeyPatch) -> None:
+    """Stretch by stretch, and a stretch of zeros leaves the scale as it was."""
+    monkeypatch.setattr(fil, "VALUES_TO_LEVEL_BY", 64 * 1000)
+    noise, values = noise_and_file(tmp_path)
+    values[2000:] *= 3
+    values[1000:2000] = 0
+    path, pipe = Path(write(tmp_path / "a.fil", values.astype("<f4").tobytes(), nbits=32)), tmp_path / "pipe"
+    os.mkfifo(pipe)
+    writer = threading.Thread(target=lambda: pipe.write_bytes(path.read_bytes()))
+    writer.start()
+    psr_fil([str(pipe), str(tmp_path / "out.dada")])
+    writer.join()
+    written = Samples([str(tmp_path / "out.dada")]).read(0, 4000).astype(int)
+    assert np.abs(written[2000:] - (64 + 8 * noise[2000:])).max() < 5
+    assert (written[1000:2000] == 0).all()
+
+
+def test_what_a_header_says_is_kept(tmp_path: Path, capsys: pytest.CaptureFixture[str]) -> None:
+    out = tmp_path / "out.dada"
+    path = write(tmp_path / "a.fil", bytes(640), telescope_id=4, machine_id=10, src_raj=43715.81, src_dej=-471508.5,
+                 barycentric=1, refdm=2.64, data_type=6, rawdatafile="/data/" + "long" * 40 + ".raw", ibeam=3,
+                 other=word("npuls") + struct.pack("<q", 7) + entry("nbins", 64))
+    psr_fil([path, str(out)])
+    fields = header(str(out)).fields
+    wanted = {"TELESCOPE": "Parkes", "RA": "04:37:15.810", "DEC": "-47:15:08.500", "BARYCENTRIC": "1", "REFDM": "2.64",
+              "DATA_TYPE": "6", "MACHINE_ID": "10", "IBEAM": "3", "RAW_FILE": "long" * 40 + ".raw"}
+    assert wanted.items() <= fields.items()
+    said = capsys.readouterr().err
+    assert "corrected to the barycentre" in said and "dedispersed sub-bands" in said and "at DM 2.64" in said
+
+
+def test_keywords_that_sigproc_does_not_have(tmp_path: Path) -> None:
+    path = write(tmp_path / "a.fil", bytes(640), colour=1, shade="dark", other=word("nothing"))
+    with pytest.raises(Refusal, match="'colour' is no keyword that is known: .* by --keyword colour=KIND"):
+        psr_fil([path, str(tmp_path / "out.dada")])
+    psr_fil([path, str(tmp_path / "out.dada"), "--keyword", "colour=int", "--keyword", "shade=string", "--keyword",
+             "nothing=none"])
+    assert header(str(tmp_path / "out.dada")).spectra == 10
+
+
+def test_more_channels_than_a_search_takes(tmp_path: Path, capsys: pytest.CaptureFixture[str]) -> None:
+    values = np.random.default_rng(5).integers(40, 60, (400, 12288), np.uint8)
+    path = write(tmp_path / "a.fil", values.tobytes(), nchans=12288, foff=-0.03)
+    psr_fil([path, str(tmp_path / "out.dada")])
+    assert "3 neighbouring channels each were added: a search takes 4096" in capsys.readouterr().out
+    head = header(str(tmp_path / "out.dada"))
+    assert (head.channels, head.spectra) == (4096, 400) and head.width_hz == 368_640_000
+    written = Samples([str(tmp_path / "out.dada")]).read(0, 400)
+    joined = values.reshape(400, 4096, 3).sum(axis=2)
+    assert np.corrcoef(written[:, 7], joined[:, 7])[0, 1] > 0.99
+    with pytest.raises(Refusal, match="4099 channels can't be added to 4096 or fewer"):
+        psr_fil([write(tmp_path / "b.fil", bytes(4099), nchans=4099, foff=-0.03), str(tmp_path / "other.dada")])
+
+
+def test_a_sampling_time_with_more_decimals(tmp_path: Path, capsys: pytest.CaptureFixture[str]) -> None:
+    psr_fil([write(tmp_path / "a.fil", bytes(640), tsamp=65.4766e-6), str(tmp_path / "out.dada")])
+    assert header(str(tmp_path / "out.dada")).sample_ns == 65477
+    assert "TSAMP is taken to a nanosecond: times are wrong by 22 ms after an hour\n" in capsys.readouterr().out
 
 
 def test_a_table_of_frequencies(tmp_path: Path) -> None:
@@ -143,3 +249,11 @@ def test_files_that_follow_one_another(tmp_path: Path) -> None:
     with pytest.raises(Refusal, match="its bits differs from that of the first file"):
         psr_fil([parts[0], write(tmp_path / "wide.fil", b"", nbits=16), str(tmp_path / "other.dada")])
     assert not (tmp_path / "other.dada").exists()
+
+
+def test_coarse_floats(tmp_path: Path, capsys: pytest.CaptureFixture[str]) -> None:
+    """Values of a few steps have medians and deviations of a few steps, and no channel stands out for that."""
+    steps = np.random.default_rng(6).choice([-3.0, -1.0, 1.0, 3.0], (4000, 64), p=[0.16, 0.34, 0.34, 0.16])
+    written = turned(tmp_path / "a.fil", steps)
+    assert len(np.unique(written)) <= 4 * 64 and "mask to try: none\n" in capsys.readouterr().out
+    assert written.std(axis=0) == pytest.approx(8, rel=0.4)

@@ -84,9 +84,10 @@ def test_a_long_header(tmp_path: Path) -> None:
     (("HDR_VERSION", "\xe4"), "NotText 0"),
     (("NCHAN ", "CHANS "), "Missing NCHAN"),
     (("TSAMP       64 ", "TSAMP 6.4e1 "), "BadNumber TSAMP"),
-    (("NBIT        8", "NBIT 4"), "OutOfProfile NBIT"),
-    (("NPOL        1", "NPOL 4"), "OutOfProfile NPOL"),
-    (("NDIM        1", "NDIM 2"), "OutOfProfile NDIM"),
+    (("NBIT        8", "NBIT 4"), "OutOfProfile NBIT: psr_dada may turn it into a file that is searched"),
+    (("NPOL        1", "NPOL 4"), "OutOfProfile NPOL: psr_dada may turn it into a file that is searched"),
+    (("NDIM        1", "NDIM 2"), "OutOfProfile NDIM: psr_dada may turn it into a file that is searched"),
+    (("NCHAN       1024", "NCHAN 8192"), "OutOfRange NCHAN: psr_dada may turn it into a file that is searched"),
     (("NCHAN       1024", "NCHAN 1"), "OutOfRange NCHAN"),
     (("TSAMP       64 ", "TSAMP 0.000064 "), "OutOfRange TSAMP"),
     (("FREQ        1382.0", "FREQ 1382000000"), "OutOfRange FREQ"),
@@ -133,7 +134,7 @@ def test_a_start_between_two_seconds(tmp_path: Path) -> None:
 
 @pytest.mark.parametrize("front, form", [
     (b"\x0c\0\0\0HEADER_START", "it is a SIGPROC filterbank: psr_fil makes a DADA file of it"),
-    (b"SIMPLE  =                    T", "it is a FITS file, and has to be turned into a DADA file first"),
+    (b"SIMPLE  =                    T", "it is a FITS file: psr_fits makes a DADA file of it"),
 ])
 def test_files_of_another_form(tmp_path: Path, front: bytes, form: str) -> None:
     (tmp_path / "other").write_bytes(front.ljust(8192, b"\0"))

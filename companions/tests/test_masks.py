@@ -35,7 +35,7 @@ def test_other_texts_of_masks(text: str, channels: list[int]) -> None:
 def test_masks_that_are_refused(text: str, why: str) -> None:
     with pytest.raises(Refusal, match=why) as caught:
         masked_channels(text, 8)
-    assert caught.value.status == 2
+    assert caught.value.status == 12
 
 
 def test_a_mask_counts_in_the_order_of_the_file(files: dict[str, str]) -> None:

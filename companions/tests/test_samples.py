@@ -51,7 +51,7 @@ def test_files_that_do_not_follow(files: dict[str, str], tmp_path: Path) -> None
     parts = cut(files["made"], tmp_path, [1000, 2000])
     with pytest.raises(Refusal, match="OBS_OFFSET 2000 where 1000 was expected"):
         Samples([parts[0], parts[2]])
-    with pytest.raises(Refusal, match="differs"):
+    with pytest.raises(Refusal, match="Differs NCHAN"):
         Samples([files["made"], files["rising"]])
 
 

@@ -1,12 +1,16 @@
 """The tables of psr_table."""
 from __future__ import annotations
 
+import json
+import subprocess
+import sys
 from pathlib import Path
 
 import numpy as np
 import pytest
 
-from conftest import DATA
+from conftest import DATA, HERE
+from malletbean import Refusal
 from malletbean.table import VIEW, psr_table
 
 MADE, FOLDS, TWO = (str(DATA / f"{name}.txt") for name in ("made", "folds", "two"))
@@ -52,12 +56,69 @@ def test_a_masked_text_and_a_part(files: dict[str, str], tmp_path: Path, capsys:
     assert line.split(",")[6:8] == [f"{ratio:.3f}"] * 2
 
 
+COLUMNS = ("snr,dm,dm_error,time_top,time_foot,mjd_infinite,utc_top,width_ms,width,delay,averaged,lines,flag,"
+           "utc_infinite,end,sum,cells,search,zero_dm")
+
+
 def test_a_view(files: dict[str, str], capsys: pytest.CaptureFixture[str]) -> None:
-    first, names, *lines = table(capsys, files["second"], "32", "4", TWO, "--obs", "1", "--best", "2")
+    words = [files["second"], "32", "4", TWO, "--obs", "1"]
+    first, names, *lines = table(capsys, *words, "--best", "2")
     assert first == f"# {VIEW}" and "not a result of the search" in VIEW
-    assert names.endswith(",lines")
-    assert [line.split(",")[1] for line in lines] == ["20", "20"]
-    assert sum(int(line.split(",")[-1]) for line in lines) <= 80
+    assert names == COLUMNS
+    rows = [dict(zip(names.split(","), line.split(","))) for line in lines]
+    assert [(row["delay"], row["averaged"]) for row in rows] == [("20", "1")] * 2
+    assert sum(int(row["lines"]) for row in rows) <= 80
+    assert len(table(capsys, *words, "--best", "100")) == 2 + 3
+
+
+@pytest.mark.parametrize("suffix", [".csv", ".json", ".cand", ".singlepulse", ".npz"])
+def test_files_of_a_view(files: dict[str, str], tmp_path: Path, suffix: str) -> None:
+    name = tmp_path / f"a{suffix}"
+    psr_table([files["second"], "32", "4", TWO, "--obs", "1", "--best", "9", "-o", str(name)])
+    if suffix == ".npz":
+        with np.load(name) as arrays:
+            assert arrays["pulses"]["flag"].tolist() == ["", "", ""]
+    elif suffix == ".json":
+        assert len(json.loads(name.read_text())["candidates"]) == 3
+    else:
+        assert len(name.read_text().splitlines()) == 3 + (suffix != ".cand")
+
+
+def test_a_view_of_a_beam(files: dict[str, str], tmp_path: Path, capsys: pytest.CaptureFixture[str]) -> None:
+    text = tmp_path / "beams"
+    text.write_text("BEAM 0\n" + Path(MADE).read_text().replace("PULSE 120", "RFI 120"))
+    _, names, *lines = table(capsys, files["made"], "16", "2.828", str(text), "--beam", "0", "--best", "9")
+    assert names == COLUMNS + ",rfi"
+    assert [line.rsplit(",", 1)[1] for line in lines] == ["0", "1", "0"]
+
+
+def test_the_text_and_the_file_are_no_output(files: dict[str, str], tmp_path: Path) -> None:
+    text = tmp_path / "text.csv"
+    text.write_text(Path(MADE).read_text())
+    (tmp_path / "link.csv").symlink_to(text)
+    for name in (text, tmp_path / "link.csv"):
+        with pytest.raises(Refusal, match="is what is read"):
+            psr_table([files["made"], "16", "2.828", str(text), "-o", str(name)])
+    assert text.read_text() == Path(MADE).read_text()
+
+
+def test_a_pipe(files: dict[str, str], tmp_path: Path) -> None:
+    for program, more in (("psr_table", []), ("psr_plot", ["-o", str(tmp_path / "a.png")])):
+        command = [sys.executable, str(HERE.parent / program), files["made"], "16", "2.828", "/dev/stdin", *more]
+        answer = subprocess.run(command, input=Path(MADE).read_text(), capture_output=True, text=True)
+        assert (answer.returncode, answer.stderr) == (0, "")
+        assert len(answer.stdout.splitlines()) == (6 if program == "psr_table" else 0)
+
+
+def test_a_text_that_grows(files: dict[str, str], tmp_path: Path, capsys: pytest.CaptureFixture[str]) -> None:
+    text = tmp_path / "live"
+    lines = Path(MADE).read_text().splitlines()
+    text.write_text("\n".join([*lines[:2], "CHECK 100 2", "MANY 110 70000", "CHECK 110 2", lines[2][:9]]))
+    psr_table([files["made"], "16", "2.828", str(text)])
+    answer = capsys.readouterr()
+    assert len(answer.out.splitlines()) == 3
+    assert answer.err == (f"psr_table: {text} goes on behind its last CHECK line: it was read up to spectrum 110\n"
+                          f"psr_table: {text} has no pulses of parts that had too many: those that end at 110\n")
 
 
 def test_arrays(files: dict[str, str], tmp_path: Path) -> None:

@@ -68,7 +68,47 @@ def test_a_last_part_counts_those_before(tmp_path: Path) -> None:
     assert read(str(DATA / "made.txt"))[0].counted == 5
 
 
+LINES = MADE.splitlines(keepends=True)
+# parts up to 100 with two pulses, up to 200 with too many, up to 250 with none, and up to 256 with one
+LIVE = "".join([*LINES[:2], "CHECK 100 2\n", "MANY 200 70000\n", "CHECK 200 2\n", "CHECK 250 2\n", LINES[4],
+                "END 3 0 256\n"])
+
+
+def test_a_text_of_parts(tmp_path: Path) -> None:
+    found, = read(text_of(tmp_path, LIVE))
+    assert (len(found.pulses), found.spectra, found.counted) == (3, 256, 3)
+    assert found.many.tolist() == [(200, 70000)]
+    assert not found.is_checkpoint and not found.is_growing
+    assert found.pulses["sum"].tolist() == [int(line.split()[5]) for line in (LINES[0], LINES[1], LINES[4])]
+
+
+def test_a_text_that_grows(tmp_path: Path) -> None:
+    """Whatever of a part is there, the text is read up to the last part that is whole."""
+    first = LIVE.index("CHECK 100 2\n") + len("CHECK 100 2\n")
+    for stop in range(first, len(LIVE)):
+        found, = read(text_of(tmp_path, LIVE[:stop]))
+        whole = LIVE[:stop].count("\nCHECK 100 2\n") + LIVE[:stop].count("\nCHECK 200 2\n") \
+            + LIVE[:stop].count("\nCHECK 250 2\n")
+        assert found.spectra == [100, 200, 250][whole - 1] and found.is_checkpoint
+        assert len(found.pulses) == 2 and len(found.many) == (whole > 1)
+        assert found.is_growing == (not LIVE[:stop].endswith(("100 2\n", "200 2\n", "250 2\n")))
+    with pytest.raises(Refusal, match="no END line"):
+        read(text_of(tmp_path, LIVE[:first - 1]))
+
+
+def test_a_text_of_parts_that_goes_on(tmp_path: Path) -> None:
+    later = LIVE.replace("CHECK 100 2", "CHECK 100 9").replace(" 2\n", " 9\n").replace("END 3", "END 10")
+    found, = read(text_of(tmp_path, later))
+    assert (len(found.pulses), found.counted) == (3, 10)
+
+
 @pytest.mark.parametrize("text, why", [
+    (LIVE.replace("CHECK 250", "CHECK 200"), "its part behind spectrum 200 ends at 200"),
+    (LIVE.replace("CHECK 250", "CHECK 150"), "its part behind spectrum 200 ends at 150"),
+    (LIVE.replace("CHECK 200 2", "CHECK 200 3"), "up to spectrum 200 has other lines than are counted"),
+    (LIVE.replace("END 3", "END 2"), "up to spectrum 256 has other lines than are counted"),
+    (LIVE.replace("CHECK 200 2\n", ""), "behind MANY 200 no line counts the pulses"),
+    (LIVE.replace("MANY 200", "MANY 199"), "behind MANY 199 no line counts the pulses"),
     ("", "no END line"),
     ("END 0 0 7", "no END line"),
     (MADE.replace("END 5 0 256\n", ""), "no END line"),
