@@ -6,6 +6,7 @@ import os
 import sys
 from collections.abc import Iterator, Sequence
 from contextlib import ExitStack
+from fractions import Fraction
 
 import numpy as np
 
@@ -70,7 +71,8 @@ class Filterbanks:
         """What the header of the DADA file says."""
         bank = self.bank
         # a number of days tells microseconds, and no more
-        start = None if bank.start is None else round(bank.start * SECONDS_IN_DAY * 10**6) * (PICOSECONDS // 10**6)
+        microseconds = None if bank.start is None else round(Fraction(bank.start) * SECONDS_IN_DAY * 10**6)
+        start = None if microseconds is None else microseconds * (PICOSECONDS // 10**6)
         centre = bank.first + bank.step * (bank.channels - 1) / 2
         return Observed(bank.channels, len(self._chosen), bank.seconds, centre, bank.step * bank.channels, start,
                         bank.others)
