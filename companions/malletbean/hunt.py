@@ -13,11 +13,12 @@ import sys
 import time
 from collections.abc import Iterator, Sequence
 from contextlib import contextmanager, suppress
-from dataclasses import dataclass, replace
+from dataclasses import dataclass, field, replace
 from operator import attrgetter
 
 import numpy as np
 
+from .bursts import bursts_of, level_for_bursts, quiet
 from .cluster import program_at, scripts
 from .headers import Header
 from .hunt_folds import folds_planned
@@ -89,6 +90,8 @@ def parsed(words: Sequence[str]) -> argparse.Namespace:
                         help="channels to leave out, as psr_mask names them; auto: those that stand out; or none")
     parser.add_argument("--clip", metavar="Z", type=decimal,
                         help="leave out spectra whose sum is farther than Z deviations off: bursts of interference")
+    parser.add_argument("--keep-bursts", action="store_true",
+                        help="search bursts of interference in parts of the band, too, which are replaced otherwise")
     parser.add_argument("--cores", metavar="C", type=int, default=len(os.sched_getaffinity(0)),
                         help="how many jobs run at a time (one for each core)")
     engine = parser.add_mutually_exclusive_group()
@@ -162,6 +165,7 @@ def meaning(asked: argparse.Namespace) -> tuple[str, ...]:
              "--mask", asked.mask]
     for name, value in (("--widths", asked.widths), ("--clip", asked.clip)):
         words += [] if value is None else [name, f"{value:g}"]
+    words += ["--keep-bursts"] if asked.keep_bursts else []
     return (*words, *(() if asked.periods is None else ("--periods", *(f"{one:g}" for one in asked.periods))))
 
 
@@ -257,6 +261,9 @@ class Running:
     hunt: Hunt
     head: Header
     cores: int
+    # whether levels are freed of bursts, and which of them wait until these are known
+    is_freed: bool
+    waiting: list[str] = field(default_factory=list)
 
     def done(self, task: Task, seconds: float) -> list[Task]:
         """A level is measured, and its passes can begin."""
@@ -264,10 +271,24 @@ class Running:
         level = next((one for one in self.hunt.levels if one.path == task.name), None)
         if level is None:
             return []
+        self.waiting.append(level.path)
+        if self.hunt.bursts is None:
+            if level.path != level_for_bursts(self.hunt).path:
+                return []
+            level = measured(self.folder, self.hunt, level)
+            self.hunt = replace(self.hunt, bursts=bursts_of(self.folder, self.hunt, level) if self.is_freed else ())
+        tasks = [task for path in self.waiting for task in self.searches_of(path)]
+        self.waiting.clear()
+        return tasks
+
+    def searches_of(self, path: str) -> list[Task]:
+        """The jobs of the passes over a level, which is freed of bursts and measured first."""
+        level = next(one for one in self.hunt.levels if one.path == path)
         if level.mean is None:
+            quiet(self.folder, self.hunt, level)
             self.hunt = with_noise(self.hunt, measured(self.folder, self.hunt, level), self.head)
             write_manifest(self.folder, self.hunt)
-        return [task for search in self.hunt.searches if search.level == level.path and not self.is_joined(search.name)
+        return [task for search in self.hunt.searches if search.level == path and not self.is_joined(search.name)
                 for task in search_tasks(self.folder, self.hunt, search, self.head, self.cores)]
 
     def again(self, task: Task) -> list[Task]:
@@ -299,7 +320,7 @@ def run_hunt(asked: argparse.Namespace, folder: str, hunt: Hunt, begun: float) -
     """Runs what is not there yet, and says what was found."""
     head = Samples([os.path.join(folder, path) for path in hunt.observation.paths], hunt.mask).header
     head = replace(head, data_bytes=hunt.observation.spectra * head.spectrum_bytes)
-    running = Running(folder, hunt, head, asked.cores)
+    running = Running(folder, hunt, head, asked.cores, not asked.keep_bursts)
     write_commands(folder, hunt, head)
     engine = engine_of(asked, folder)
     progress = Progress(predicted_seconds(hunt, head))
@@ -355,6 +376,8 @@ def write_commands(folder: str, hunt: Hunt, head: Header) -> None:
         assert converter is not None
         lines.append(f"[ -e {CONVERTED} ] || {shlex.join(conversion(converter, hunt.inputs, CONVERTED))}")
     lines += [level.command for level in hunt.levels]
+    # what psr_hunt found in the levels, as hunt.json has it
+    lines.append(f"PYTHONPATH={shlex.quote(companion(''))} {shlex.quote(sys.executable)} -m malletbean.bursts .")
     for search in hunt.searches:
         lines.append(f"bash searches/{search.name}/jobs")
         if not search.fold_max:

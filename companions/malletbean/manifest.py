@@ -99,6 +99,18 @@ class SearchPass:
 
 
 @dataclass(frozen=True)
+class Burst:
+    """A burst of interference in a part of the band, whose values were replaced in all levels: when it is, in seconds
+    from the first spectrum, which channels it is in, in the order of the file, and how many deviations it has."""
+
+    begin: float
+    until: float
+    first_channel: int
+    stop_channel: int
+    snr: float
+
+
+@dataclass(frozen=True)
 class Program:
     """A program that a hunt ran: where it lies, its sha256, and the commit that it says, if it says one."""
 
@@ -138,6 +150,8 @@ class Hunt:
     searches: tuple[SearchPass, ...]
     # the words by which psr_level reads values that are signed, or have their high byte first
     form: tuple[str, ...] = ()
+    # None until they were looked for
+    bursts: tuple[Burst, ...] | None = None
     # the plan as `--dry-run` prints it
     plan: str = ""
     programs: tuple[Program, ...] = ()
@@ -179,6 +193,8 @@ def hunt_of(found: Mapping[str, Any]) -> Hunt:
     values["observation"] = Observation(**listed(found["observation"], "paths"))
     values["levels"] = tuple(LevelFile(**one) for one in found["levels"])
     values["searches"] = tuple(search_of(one) for one in found["searches"])
+    if found["bursts"] is not None:
+        values["bursts"] = tuple(Burst(**one) for one in found["bursts"])
     values["programs"] = tuple(Program(**one) for one in found["programs"])
     values["commands"] = tuple(Command(**one) for one in found["commands"])
     values["states"] = tuple((str(path), int(size), int(time)) for path, size, time in found["states"])

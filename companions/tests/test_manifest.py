@@ -6,7 +6,7 @@ from pathlib import Path
 
 import pytest
 
-from malletbean.manifest import (Command, Hunt, LevelFile, Observation, Program, Raised, SearchPass, read_manifest,
+from malletbean.manifest import (Burst, Command, Hunt, LevelFile, Observation, Program, Raised, SearchPass, read_manifest,
                                  write_manifest)
 from malletbean.refusal import Refusal
 
@@ -17,7 +17,8 @@ PASS = SearchPass(name="k2", average=2, zero_dm=True, level="k2.dada", output="k
                   max_delay=256, dm_low=0.0, dm_high=25.0, mean=14.0, sd=2.8, snr=6.3, spectra=500,
                   raised=(Raised(0, 250, 12.0),))
 HUNT = Hunt(version=1, arguments=("a.dada", "--dm", "0", "25"), inputs=("/data/a.dada",), observation=SKY, mask="3,5-7",
-            zero_dm=True, clip=None, snr=6.3, dm_low=0.0, dm_high=25.0, levels=(LEVEL,), searches=(PASS,),
+            zero_dm=True, clip=None, snr=6.3,
+            bursts=(Burst(1.0, 1.01, 0, 64, 30.0),), dm_low=0.0, dm_high=25.0, levels=(LEVEL,), searches=(PASS,),
             programs=(Program("psr_search", "/usr/bin/psr_search", "00"),), commands=(Command("k2", "line", 1.5, 0),),
             form=("--signed",), states=(("/data/a.dada", 5096, 17),))
 
