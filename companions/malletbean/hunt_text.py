@@ -5,16 +5,19 @@ import csv
 import math
 import os
 from collections.abc import Sequence
+from itertools import groupby
 
 import numpy as np
 
-from .headers import Header
+from .candidates import fold_table
+from .headers import Header, header
 from .hunt_cost import disk_bytes, free_disk, free_memory, level_seconds, memory_bytes
 from .hunt_input import masked_megahertz
 from .hunt_plan import level_header, noise_lines, overstatement
 from .hunt_pieces import seconds_of
 from .manifest import Hunt, SearchPass
 from .masks import masked_channels
+from .texts import read
 
 # how many ranges of frequencies are named
 MOST_NAMED = 8
@@ -83,12 +86,14 @@ def fold_lines(hunt: Hunt, head: Header, not_folded: Sequence[str]) -> list[str]
     folds = [one for one in hunt.searches if one.fold_max]
     if not folds and not not_folded:
         return []
-    lines = ["", "folds     periods in s        rows   DM                  --snr  core s"]
-    for one in folds:
-        seconds = level_header(head, one.average).seconds
-        periods = f"{one.fold_min * seconds:.5g} to {one.fold_max * seconds:.5g}"
-        lines.append(f"{one.name:<9} {periods:<19} {2**one.fold_rows:<6} "
-                     f"{f'{one.dm_low:.1f} to {one.dm_high:.1f}':<19} {one.snr:>5.2f}  {seconds_of(one, head):>6.1f}")
+    lines = ["", "folds of s          searches  level  rows   DM                  --snr  core s"]
+    for _, some in groupby(folds, key=lambda one: (one.level, one.fold_min)):
+        mine = list(some)
+        first, last, seconds = mine[0], mine[-1], level_header(head, mine[0].average).seconds
+        periods = f"{first.fold_min * seconds:.5g} to {first.fold_max * seconds:.5g}"
+        lines.append(f"{periods:<19} {len(mine):>8}  {f'k{first.average}':<6} {1 << first.fold_rows:<6} "
+                     f"{f'{first.dm_low:.1f} to {last.dm_high:.1f}':<19} {first.snr:>5.2f}  "
+                     f"{sum(seconds_of(one, head) for one in mine):>6.1f}")
     return [*lines, *(f"not folded: {one}" for one in not_folded)]
 
 
@@ -142,6 +147,7 @@ def summary_lines(folder: str, hunt: Hunt, lines: int, seconds: float) -> list[s
         f"{width_range(hunt)} ms, true S/N from {hunt.snr:g} on, in {duration(seconds)}",
         f"found       {len(found)} candidates, {flagged} of them flagged, from {lines} lines",
         *(f"{name:<11} {strongest_line(one)}" for name, one in strongest(found)),
+        *fold_summary(folder, hunt),
         f"masked      {hunt.mask if len(hunt.mask) < 60 else hunt.mask[:57] + '..'}",
         f"cut         {cut_line(hunt)}",
         f"candidates  {os.path.join(folder, 'candidates.csv')}",
@@ -163,6 +169,25 @@ def strongest_line(one: dict[str, str]) -> str:
     text = (f"S/N {float(one['snr']):.1f} at DM {float(one['dm']):.2f}, {float(one['width_ms']):.3g} ms wide, "
             f"{float(one['time_top']):.4f} s after the beginning")
     return f"{text} ({one['flag']})" if one.get("flag") else text
+
+
+def fold_summary(folder: str, hunt: Hunt) -> list[str]:
+    """How many folds stand out, and the strongest of them."""
+    best, count, text = 0.0, 0, ""
+    folds = [one for one in hunt.searches if one.fold_max]
+    for search in folds:
+        level = hunt.level(search)
+        lines = read(os.path.join(folder, search.output))[0].folds
+        if not len(lines):
+            continue
+        head = header(os.path.join(folder, level.path)).without(hunt.mask)
+        table = fold_table(lines, head, search.mean, level.deviation or search.sd)
+        first = table[table["snr"].argmax()]
+        count += len(table)
+        if first["snr"] > best:
+            best = float(first["snr"])
+            text = f": S/N {best:.1f} at {first['period_s']:.6f} s, DM {first['dm']:.2f}"
+    return [f"folds       {count} lines{text}"] if folds else []
 
 
 def cut_line(hunt: Hunt) -> str:

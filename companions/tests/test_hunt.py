@@ -217,6 +217,8 @@ def test_folds(tmp_path: Path, monkeypatch: pytest.MonkeyPatch, capsys: pytest.C
     assert hunted(monkeypatch, *words) == 0
     folds = [one for one in read_manifest(str(tmp_path / "hunt")).searches if one.fold_max]
     assert folds and all("END" in (tmp_path / "hunt" / one.output).read_text() for one in folds)
+    found = re.search(r"folds +[0-9]+ lines: S/N ([0-9.]+) at ([0-9.]+) s, DM", capsys.readouterr().out)
+    assert found and float(found[1]) > 20 and abs(float(found[2]) - 0.0064) < 0.00002
 
 
 def test_a_dry_run_writes_nothing(observation: str, tmp_path: Path, monkeypatch: pytest.MonkeyPatch,
