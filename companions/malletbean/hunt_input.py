@@ -116,10 +116,11 @@ def tried_fits(paths: Sequence[str], output: str) -> int:
     """Turns pieces of PSRFITS files, and answers how many spectra the files have."""
     try:
         # astropy is needed for these files alone
-        from .fits import Observation, Rows, chosen_polarisations
+        from .fits import Observation, chosen_polarisations
+        from .psrfits import rows_of
     except ImportError as missing:
         raise Refusal(READ, f"{missing}: PSRFITS needs astropy (Debian: python3-astropy)") from missing
-    files = [Rows(path) for path in paths]
+    files = [rows_of(path) for path in paths]
     observation = Observation(files, chosen_polarisations(files[0].layout, None))
     with redirect_stdout(io.StringIO()), redirect_stderr(io.StringIO()):
         convert("psr_fits", output, observation.observed(), Sampled(observation))
