@@ -4,7 +4,7 @@ use Rattle.std.proofs.Math.Bool.{and-false}
 use Rattle.std.proofs.lemmas.Bool.{ltb-true, le-ltb}
 use Rattle.std.proofs.lemmas.Grind.{flat_map-append}
 use Rattle.std.proofs.lemmas.List.{length-append}
-use Rattle.std.specs.Prelude.{◌&&◌, false, nat_le, nat_lt}
+use Rattle.std.specs.Prelude.{false, nat_le, nat_lt}
 use Rattle.psr_base.specs.Written.{WroteAll}
 use Rattle.dada_model.specs.Observation.{Observation, edges}
 use Rattle.search_model.specs.declared.candidate.Candidate.{Candidate}
