@@ -164,8 +164,10 @@ class Reference:
 
 @cache
 def reference() -> Reference:
-    """The document that lies beside this module."""
-    return Reference(Path(__file__).with_name("REFERENCE.md").read_text(encoding="utf-8"))
+    """REFERENCE.md: installed beside this module, else that of docs/."""
+    installed = Path(__file__).with_name("REFERENCE.md")
+    path = installed if installed.exists() else Path(__file__).resolve().parents[2] / "docs" / "REFERENCE.md"
+    return Reference(path.read_text(encoding="utf-8"))
 
 
 def cells_of(line: str) -> list[str]:
