@@ -258,8 +258,8 @@ def test_files_that_follow_one_another(tmp_path: Path) -> None:
 
 
 def test_coarse_floats(tmp_path: Path, capsys: pytest.CaptureFixture[str]) -> None:
-    """Values of a few steps have medians and deviations of a few steps, and no channel stands out for that."""
+    """Values of a few steps have coarse medians and quantiles, and no channel stands out for that."""
     steps = np.random.default_rng(6).choice([-3.0, -1.0, 1.0, 3.0], (4000, 64), p=[0.16, 0.34, 0.34, 0.16])
     written = turned(tmp_path / "a.fil", steps)
     assert len(np.unique(written)) <= 4 * 64 and "mask to try: none\n" in capsys.readouterr().out
-    assert written.std(axis=0) == pytest.approx(8, rel=0.4)
+    assert written.std(axis=0) == pytest.approx(8, rel=0.05)
