@@ -97,10 +97,12 @@ class Scaler:
 def mask_by(pieces: Sequence[Array], means: Array, deviations: Array) -> str:
     """The mask of the channels that stand out in any polarisation of pieces with these means and deviations."""
     sums = []
+    # the usual deviation becomes that of values that are written, beside which rounding is small
+    unit = float(np.median(deviations)) / DEVIATION or 1.0
     for values, mean, deviation in zip(pieces, means, deviations):
         # a few values that lie far off say nothing of a channel
         known = np.where(np.isfinite(values), values, mean).astype(np.float64)
-        near = np.clip(known, mean - ABOVE * deviation, mean + ABOVE * deviation)
+        near = np.clip(known, mean - ABOVE * deviation, mean + ABOVE * deviation) / unit
         sums.append(Piece(len(values), near.sum(axis=0), (near**2).sum(axis=0)))
     standing_out = np.zeros(means.shape[1], bool)
     for polarisation in range(means.shape[2]):

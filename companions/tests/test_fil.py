@@ -157,6 +157,14 @@ def test_a_pipe_of_floats(tmp_path: Path, monkeypatch: pytest.MonkeyPatch) -> No
     assert (written[1000:2000] == 0).all()
 
 
+def test_tones_among_floats(tmp_path: Path, capsys: pytest.CaptureFixture[str]) -> None:
+    """Tones that come and go are named, whatever the unit of the values is."""
+    _, values = noise_and_file(tmp_path)
+    values[np.arange(4000) // 500 % 3 == 0, 20] += 5
+    turned(tmp_path / "a.fil", values * 1e-3)
+    assert "mask to try: 20\n" in capsys.readouterr().out
+
+
 def test_what_a_header_says_is_kept(tmp_path: Path, capsys: pytest.CaptureFixture[str]) -> None:
     out = tmp_path / "out.dada"
     path = write(tmp_path / "a.fil", bytes(640), telescope_id=4, machine_id=10, src_raj=43715.81, src_dej=-471508.5,
