@@ -266,6 +266,18 @@ def test_what_is_refused(observation: str, tmp_path: Path, monkeypatch: pytest.M
     assert list(tmp_path.iterdir()) == []
 
 
+def test_programs_that_are_not_there(observation: str, tmp_path: Path, monkeypatch: pytest.MonkeyPatch,
+                                     capsys: pytest.CaptureFixture[str]) -> None:
+    words = [observation, "--dm", "0", "9", "-o", str(tmp_path / "hunt")]
+    monkeypatch.setenv("PATH", "/nowhere")
+    for more, line in (([], "psr_level is not there: put it on the PATH, or set PSR_LEVEL"),
+                       (["--slurm"], "argument --slurm: sbatch is not on the PATH"),
+                       (["--parallel", "-j 2"], "argument --parallel: parallel is not on the PATH")):
+        assert hunted(monkeypatch, *words, *more) == 2
+        assert line in capsys.readouterr().err
+    assert list(tmp_path.iterdir()) == []
+
+
 @needs_search
 def test_other_folders(observation: str, tmp_path: Path, monkeypatch: pytest.MonkeyPatch,
                        capsys: pytest.CaptureFixture[str]) -> None:
