@@ -28,7 +28,7 @@ LEVEL_BITS, TIME_BITS, DELAY_BITS = 6, 36, 21
 DIP, DIP_PART = 2.0, 0.15
 # what noise adds to the S/N of the strongest of many boxes, and how far a pulse is from the one that is reckoned with
 NOISE_ADDS, SHAPE_ADDS = 3.0, 1.25
-# within so many widths two peaks are one
+# within so many widths, of the narrower one, two peaks are one
 NEAR = 3.0
 # deviations of a delay, in widths, times S/N: where half the square of the S/N of a pulse falls by 1/2
 DELAY_ERROR = 1.47
@@ -304,11 +304,11 @@ def explained(peaks: Lines, energy: Array, density: float) -> Array:
         else:
             some = left.at(slice(begin, stop))
             off = np.abs(some.delay - peaks.delay[peak])
-            wider = np.maximum(some.width, width)
+            wider, narrower = np.maximum(some.width, width), np.minimum(some.width, width)
             # they pass each other by no more than the wider one is wide
             does_cross = np.abs(some.middle - middle) <= off / 2 + (some.width + width) / 2 + wider
             most = SHAPE_ADDS * most_at(energy[peak], width, some.width, off, density) + NOISE_ADDS
-            is_mine = does_cross & ((off <= NEAR * wider) | (some.snr <= most)) & is_left[begin:stop]
+            is_mine = does_cross & ((off <= NEAR * narrower) | (some.snr <= most)) & is_left[begin:stop]
             owner[places[begin:stop][is_mine]] = peak
             is_left[begin:stop][is_mine] = False
             taken += int(is_mine.sum())
