@@ -34,8 +34,8 @@ NEAR = 3.0
 DELAY_ERROR = 1.47
 # zeta of Cordes and McLaughlin (2003) for a delay that is off by one width
 ZETA = 0.8325
-# so many candidates within a second are a crowd
-CROWD = 100
+# so many candidates within a second, each of such a part of the S/N at least, are a crowd
+CROWD, CROWD_PART = 100, 0.7
 # what a person would see at once: strongest at DM 0; strongest at the end of the delays that were searched; a curve of
 # S/N against DM that no dispersed pulse of this width has; the same second as a hundred others
 FLAGS = ("dm0", "edge", "curve", "crowd")
@@ -402,15 +402,20 @@ def flags_of(searches: Sequence[Searched], groups: Groups, table: Array) -> Arra
         "dm0": table["dm"] <= np.maximum(2 * table["dm_error"], table["dm"] * step / np.maximum(delay, step)),
         "edge": (delay > longest - step) | (shortest > 0) & (delay < shortest + step),
         "curve": ~fits_curve(searches, groups),
-        "crowd": others_in_second(lines.middle[best]) >= CROWD,
+        "crowd": others_in_second(lines.middle[best], table["snr"]) >= CROWD,
     }
     return np.array([" ".join(name for name in FLAGS if is_flagged[name][row]) for row in range(len(best))], "U32")
 
 
-def others_in_second(times: Array) -> Array:
-    """For each time how many others lie no farther than half a second off it."""
-    ordered = np.sort(times)
-    return np.searchsorted(ordered, times + 0.5, "right") - np.searchsorted(ordered, times - 0.5) - 1
+def others_in_second(times: Array, ratios: Array) -> Array:
+    """For each candidate how many others that are not much weaker lie no farther than half a second off it."""
+    order = np.argsort(times, kind="stable")
+    ordered, strengths = times[order], ratios[order]
+    begins, stops = (np.searchsorted(ordered, times + off, side) for off, side in ((-0.5, "left"), (0.5, "right")))
+    counts: Array = stops - begins - 1
+    for one in np.flatnonzero(counts >= CROWD).tolist():
+        counts[one] = np.count_nonzero(strengths[begins[one]:stops[one]] >= CROWD_PART * ratios[one]) - 1
+    return counts
 
 
 def fits_curve(searches: Sequence[Searched], groups: Groups) -> Array:

@@ -137,9 +137,14 @@ def test_a_crowd(searches: list[Searched]) -> None:
     lines["end"][121] = 14_000_000
     lines["cells"] = BAND.channels + 30
     lines["sum"] = lines["cells"] * MEAN + 9 * DEVIATION * np.sqrt(lines["cells"])
-    table = candidate_table([replace(searches[0], pulses=lines)])
-    assert len(table) == 122
-    assert [("crowd" in flag) for flag in table["flag"][np.argsort(table["time_top"])]] == [True] * 121 + [False]
+    # a burst that is much stronger than the others is none of the crowd
+    strong = lines["cells"][60] * MEAN + 20 * DEVIATION * np.sqrt(lines["cells"][60])
+    for total, is_one in ((lines["sum"][60], True), (strong, False)):
+        lines["sum"][60] = total
+        table = candidate_table([replace(searches[0], pulses=lines)])
+        assert len(table) == 122
+        flagged = [("crowd" in flag) for flag in table["flag"][np.argsort(table["time_top"])]]
+        assert flagged == [True] * 60 + [is_one] + [True] * 60 + [False]
 
 
 def test_nothing_to_group(searches: list[Searched]) -> None:
