@@ -411,7 +411,7 @@ def others_in_second(times: Array, ratios: Array) -> Array:
     """For each candidate how many others that are not much weaker lie no farther than half a second off it."""
     order = np.argsort(times, kind="stable")
     ordered, strengths = times[order], ratios[order]
-    begins, stops = (np.searchsorted(ordered, times + off, side) for off, side in ((-0.5, "left"), (0.5, "right")))
+    begins, stops = np.searchsorted(ordered, times - 0.5), np.searchsorted(ordered, times + 0.5, "right")
     counts: Array = stops - begins - 1
     for one in np.flatnonzero(counts >= CROWD).tolist():
         counts[one] = np.count_nonzero(strengths[begins[one]:stops[one]] >= CROWD_PART * ratios[one]) - 1
