@@ -240,9 +240,10 @@ def draw_periods(panel: Axes, folds: Array) -> None:
 
 
 def draw_profile(panel: Axes, profile: Array, fold: np.void) -> None:
-    """The profile of a fold over its phase."""
-    panel.step(np.arange(len(profile)), profile, where="mid", linewidth=0.8)
-    panel.axvline(fold["phase"], color="tab:grey", linewidth=0.6)
+    """The profile of a fold over two turns."""
+    panel.step(np.arange(2 * len(profile)), np.tile(profile, 2), where="mid", linewidth=0.8)
+    for turn in range(2):
+        panel.axvline(fold["phase"] + turn * len(profile), color="tab:grey", linewidth=0.6)
     panel.set(xlabel="phase / spectra", ylabel="S/N",
               title=f"fold: DM {fold['dm']:.3f}, {fold['period_s'] * 1000:.6f} ms, {fold['rows']} rows, "
                     f"S/N {fold['snr']:.1f}")
