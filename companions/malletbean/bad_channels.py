@@ -2,6 +2,7 @@
 from __future__ import annotations
 
 import math
+import warnings
 
 import numpy as np
 
@@ -15,11 +16,10 @@ from .noise import Measured
 TIMES_EVEN, ABOUT_SAME, RATIO_ERROR = 5, 17, 0.02
 # means that lie a part of a deviation off do no harm; a zero-DM filter moves some by half a value
 MEAN_ERROR = 0.05
-# a channel is held against so many on either side of it; those nearer to an edge of the band than so many against those
-# on one side
-BESIDE, FEW_BESIDE = 8, 3
+# a channel is held against pairs of so many on either side of it, and against the nearest ones on each side
+BESIDE, NEAR = 8, 4
 # in fewer channels none has enough beside it
-LEAST_CHANNELS = 2 * BESIDE + FEW_BESIDE
+LEAST_CHANNELS = 2 * BESIDE
 # low channels are those below this part of the others beside them
 LOW_PART = 0.5
 # rounding to whole values changes smaller deviations
@@ -55,10 +55,12 @@ def are_far(measured: Measured) -> Array:
 
 
 def are_below_neighbours(values: Array) -> Array:
-    """Which values lie below a part of the course of those beside them; all where that can't be told."""
+    """Which values lie below a part of those on either side of them; all where that can't be told."""
     if len(values) < LEAST_CHANNELS or not (values > 0).all():
         return np.ones(len(values), bool)
-    below: Array = above_neighbours(np.log(values)) < math.log(LOW_PART)
+    lower = np.minimum(*sides(values))
+    # at the edges of the band there is no other side
+    below: Array = values < LOW_PART * np.where(np.isnan(lower), 0, lower)
     return below
 
 
@@ -109,22 +111,39 @@ def are_above_neighbours(deviations: Array, measured: Measured) -> Array:
 
 
 def above_neighbours(values: Array) -> Array:
-    """By how much each value lies above the course of those beside it, whatever a few of them do."""
-    count = len(values)
-    padded = np.concatenate((np.full(BESIDE, np.nan), values, np.full(BESIDE, np.nan)))
-    places = BESIDE + np.arange(count)
-    # even slopes cancel
-    pairs = np.array([padded[places - lag] + padded[places + lag] for lag in range(1, BESIDE + 1)]) / 2
-    inner = slice(FEW_BESIDE, count - FEW_BESIDE)
-    usual = np.empty(count)
-    usual[inner] = np.nanmedian(pairs[:, inner], axis=0)
-    for place in (*range(FEW_BESIDE), *range(count - FEW_BESIDE, count)):
-        side = 1 if place < FEW_BESIDE else -1
-        beside = values[place + side * np.arange(1, 2 * BESIDE + 1)]
-        near, far = np.median(beside[:BESIDE]), np.median(beside[BESIDE:])
-        usual[place] = max(near, 2 * near - far)
-    above: Array = values - usual
+    """By how much each value lies above the course of those beside it, whatever a few of them do.
+
+    That course is no lower than the nearer values on either side: at the shoulders of a band it falls to one side.
+    """
+    left, right = sides(values)
+    course = np.fmax(np.fmax(left, right), np.nanmedian(pairs(values), axis=0))
+    for ordered, usual in ((values, course), (values[::-1], course[::-1])):
+        for place in range(NEAR // 2):
+            near, far = (np.median(ordered[place + first:][:NEAR]) for first in (1, 1 + NEAR))
+            usual[place] = max(near, 2 * near - far)
+    above: Array = values - course
     return above
+
+
+def sides(values: Array) -> tuple[Array, Array]:
+    """The medians of the nearest values on the left and on the right of each; NaN where there are too few."""
+    padded = np.pad(values, NEAR, constant_values=np.nan)
+    windows = np.lib.stride_tricks.sliding_window_view(padded, NEAR)
+    with warnings.catch_warnings():
+        # where there are no values
+        warnings.simplefilter("ignore", RuntimeWarning)
+        medians = np.nanmedian(windows, axis=1)
+    medians[np.isnan(windows).sum(axis=1) > NEAR // 2] = np.nan
+    return medians[:len(values)], medians[NEAR + 1:]
+
+
+def pairs(values: Array) -> Array:
+    """For each value the means of pairs on both sides of it, in which even slopes cancel; NaN where there are none."""
+    padded = np.pad(values, BESIDE, constant_values=np.nan)
+    places = BESIDE + np.arange(len(values))
+    means: Array = np.array([padded[places - lag] + padded[places + lag] for lag in range(1, BESIDE + 1)]) / 2
+    means[:, [0, -1]] = values[[0, -1]]
+    return means
 
 
 def file_numbers(head: Header, are_named: Array) -> Array:

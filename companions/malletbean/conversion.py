@@ -25,8 +25,10 @@ VALUES_TO_LEVEL_BY = 2**23
 MOST_PIECES, LEAST_PIECE = 64, 128
 # the most channels that are added into one
 MOST_JOINED = 4096
-# day 0 of MJD
+# day 0 of MJD, and the days on which there were telescopes
 DAY_ZERO = datetime(1858, 11, 17)
+DAYS = range(1, 200_000)
+SECONDS_IN_DAY = 86400
 PICOSECONDS = 10**12
 # a length of spectra that is taken as so much longer or shorter is said
 SMALL_DRIFT = 1e-9
@@ -148,10 +150,10 @@ def word(text: str) -> str:
 
 
 def start_fields(start: int | None) -> dict[str, str]:
-    """The time of the first spectrum: the second, and what lies past it."""
-    if start is None:
+    """The time of the first spectrum: the second, and what lies past it; nothing for a time that no telescope saw."""
+    seconds, rest = divmod(start or 0, PICOSECONDS)
+    if seconds // SECONDS_IN_DAY not in DAYS:
         return {}
-    seconds, rest = divmod(start, PICOSECONDS)
     return {"UTC_START": f"{DAY_ZERO + timedelta(seconds=seconds):%Y-%m-%d-%H:%M:%S}", "PICOSECONDS": str(rest)}
 
 

@@ -6,11 +6,13 @@ import os
 import sys
 from collections.abc import Iterator, Sequence
 from contextlib import ExitStack
+from fractions import Fraction
 
 import numpy as np
 
 from .arrays import Array
-from .conversion import PICOSECONDS, VALUES_AT_A_TIME, VALUES_TO_LEVEL_BY, Observed, convert, even_pieces, raised
+from .conversion import (PICOSECONDS, SECONDS_IN_DAY, VALUES_AT_A_TIME, VALUES_TO_LEVEL_BY, Observed, convert,
+                         even_pieces, raised)
 from .filterbank import KIND_NAMES, KINDS, Filterbank, Source
 from .program import Words
 from .refusal import WORDS, Refusal, opened
@@ -68,9 +70,9 @@ class Filterbanks:
     def observed(self) -> Observed:
         """What the header of the DADA file says."""
         bank = self.bank
-        is_dated = bank.start is not None and 0 < bank.start < 200_000
         # a number of days tells microseconds, and no more
-        start = round(bank.start * 86_400_000_000) * (PICOSECONDS // 10**6) if is_dated and bank.start else None
+        microseconds = None if bank.start is None else round(Fraction(bank.start) * SECONDS_IN_DAY * 10**6)
+        start = None if microseconds is None else microseconds * (PICOSECONDS // 10**6)
         centre = bank.first + bank.step * (bank.channels - 1) / 2
         return Observed(bank.channels, len(self._chosen), bank.seconds, centre, bank.step * bank.channels, start,
                         bank.others)

@@ -30,15 +30,21 @@ def write_candidates(folder: str) -> Array:
     """Writes the candidates of the hunt in a folder as candidates.csv, .json, .cand and .singlepulse there."""
     hunt = read_manifest(folder)
     searches = searches_of(folder, hunt)
-    table = candidate_table(searches)
-    # lines of wide boxes have a greater ratio than their true S/N
-    table = table[table["snr"] >= hunt.snr]
-    table["flag"] = with_flag(table["flag"], are_narrow(folder, hunt, table), "narrow")
+    table = candidates_of(folder, hunt, searches)
     finest = min(searches, key=lambda search: search.averaged).head
     for suffix, write in FORMS.items():
         with whole_file(os.path.join(folder, f"candidates{suffix}")) as name:
             with open(name, "w", encoding="ascii") as file:
                 write(file, table, finest)
+    return table
+
+
+def candidates_of(folder: str, hunt: Hunt, searches: Sequence[Searched]) -> Array:
+    """The candidates of a hunt, the strongest first, with all their flags."""
+    table = candidate_table(searches)
+    # lines of wide boxes have a greater ratio than their true S/N
+    table = table[table["snr"] >= hunt.snr]
+    table["flag"] = with_flag(table["flag"], are_narrow(folder, hunt, table), "narrow")
     return table
 
 

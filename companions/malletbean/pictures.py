@@ -64,13 +64,14 @@ def near(samples: Samples, search: Searched, row: np.void) -> Near:
     begin = before - shown
     entries = delay_paths(head.edges_khz, np.append(delays, delay))
     narrow = row_sums(total, entries[:, -1], begin + box // 2, 2 * shown)
-    profile = narrow.reshape(-1, columns).sum(axis=1) / noise(search, delay, columns)
+    profile = narrow.reshape(-1, columns).sum(axis=1) / noises(search, np.array([delay]), columns)
+    noise = noises(search, delays, box)
     bow = np.empty((len(delays), 2 * shown // columns))
     ratios = np.empty(len(delays))
     for number, off in enumerate((delays - delay).tolist()):
         # boxes that pass the middle of their delay when the candidate does stand in the middle
         sums = row_sums(total, entries[:, number], begin - off // 2, 2 * shown + box).cumsum()
-        boxes = (sums[box:] - sums[:-box]) / noise(search, delay + off, box)
+        boxes = (sums[box:] - sums[:-box]) / noise[number]
         bow[number] = boxes.reshape(-1, columns).max(axis=1)
         reach = min(abs(off) // 2 + box, shown)
         ratios[number] = boxes[shown - reach:shown + reach + 1].max()
@@ -112,11 +113,12 @@ def row_sums(total: Array, entries: Array, first: int, count: int) -> Array:
     return sums
 
 
-def noise(search: Searched, delay: int, box: int) -> float:
-    """The deviation of a box of path sums of a delay, in deviations of a sample."""
-    line = np.zeros(1, [("delay", "i8"), ("width", "i8")])
-    line["delay"], line["width"] = delay, box
-    return float(np.sqrt(pulse_noise_cells(line, search.head)[0]))
+def noises(search: Searched, delays: Array, box: int) -> Array:
+    """The deviation of a box of path sums of each delay, in deviations of a sample."""
+    lines = np.zeros(len(delays), [("delay", "i8"), ("width", "i8")])
+    lines["delay"], lines["width"] = delays, box
+    found: Array = np.sqrt(pulse_noise_cells(lines, search.head))
+    return found
 
 
 def waterfall_of(values: Array, head: Header, entries: Array, first: int, shape: tuple[int, int]) -> Array:
@@ -165,7 +167,7 @@ def draw_waterfall(panel: Axes, rows: Array, extent: tuple[float, float, float, 
     """Frequency against time, dedispersed; what is masked is white."""
     most = max(4.0, float(np.nanpercentile(rows, 99.5)))
     panel.set_facecolor("white")
-    panel.imshow(np.ma.masked_invalid(rows), aspect="auto", extent=extent, interpolation="nearest", cmap="viridis",
+    panel.imshow(rows, aspect="auto", extent=extent, interpolation="nearest", cmap="viridis",
                  vmin=-2, vmax=most)
     panel.set(xlabel="time after the middle of the box / ms", ylabel="frequency / MHz", title="dedispersed")
 

@@ -12,7 +12,7 @@ from astropy.io import fits  # type: ignore[import]
 from astropy.utils.exceptions import AstropyWarning  # type: ignore[import]
 
 from .arrays import Array
-from .conversion import PICOSECONDS
+from .conversion import PICOSECONDS, SECONDS_IN_DAY
 from .headers import refused
 from .refusal import opened, some_of, unread
 
@@ -21,7 +21,6 @@ BITS = {1: "u", 2: "u", 4: "u", 8: "u", 16: "i", 32: "f"}
 # fields of the header of DADA that those of PSRFITS become
 KEPT = {"SOURCE": "SRC_NAME", "TELESCOPE": "TELESCOP", "RECEIVER": "FRONTEND", "INSTRUMENT": "BACKEND", "RA": "RA",
         "DEC": "DEC"}
-SECONDS_IN_DAY = 86400
 # channels lie evenly to so much of their width
 EVEN = 0.1
 

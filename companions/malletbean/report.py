@@ -20,9 +20,9 @@ from matplotlib.figure import Figure
 
 from .arrays import Array
 from .candidates import fold_table, strongest
-from .grouping import Searched, candidate_table, lines_of
+from .grouping import Searched, lines_of
 from .headers import header
-from .listing import csv_values, searches_of
+from .listing import candidates_of, csv_values, searched, searches_of
 from .manifest import Hunt, SearchPass, read_manifest
 from .output import whole_file
 from .page import PAGE
@@ -34,12 +34,14 @@ from .texts import read
 
 # rows of the table, folds that get a picture, and dots of an inch
 MOST_ROWS, MOST_FOLDS, DOTS = 2000, 6, 100
+# so many stretches of a search with a higher threshold are named
+MOST_RAISED = 8
 # periods that differ by no more than such a part are one
 SAME_PERIOD = 0.002
 FLAG_MEANINGS = (
     ("dm0", "strongest at DM 0"), ("edge", "strongest at the end of the delays that were searched"),
     ("curve", "S/N against DM fits no dispersed pulse of this width"),
-    ("crowd", "in the same second as a hundred others"),
+    ("crowd", "in the same second as a hundred others"), ("narrow", "strong in a quarter of the band alone"),
 )
 COLUMNS = (
     ("number", "#", "rank by S/N", "{}"), ("snr", "S/N", "true signal-to-noise ratio", "{:.2f}"),
@@ -56,12 +58,12 @@ def write_report(folder: str, most: int = 20) -> None:
     """Writes the report of the hunt in a folder, with a picture of each of the first `most` candidates."""
     hunt = read_manifest(folder)
     searches = searches_of(folder, hunt)
-    table = candidate_table(searches)
+    table = candidates_of(folder, hunt, searches)
     text = jinja2.Environment(autoescape=True).from_string(PAGE).render(
-        **said_of(hunt, table), **rows_of(table, most), **searches_said(hunt, searches),
+        **said_of(hunt, table), **rows_of(table, most), **searches_said(folder, hunt),
         observation=observation_lines(hunt), header=header_of(folder, hunt),
         overview=embedded(overview(dots_of(searches), table)), pictures=pictures_of(folder, hunt, searches, table[:most]),
-        folds=folds_of(folder, hunt, searches),
+        folds=folds_of(folder, hunt),
     )
     with whole_file(os.path.join(folder, "report.html")) as name, open(name, "w", encoding="utf-8") as file:
         file.write(text)
@@ -135,16 +137,19 @@ def header_of(folder: str, hunt: Hunt) -> str:
         return refusal.line
 
 
-def searches_said(hunt: Hunt, searches: Sequence[Searched]) -> dict[str, Any]:
+def searches_said(folder: str, hunt: Hunt) -> dict[str, Any]:
     """The rows of all searches, and what was searched with a higher threshold."""
     rows, raised = [], []
-    for one, searched in zip(hunt.searches, searches):
+    for one in hunt.searches:
+        found = read(os.path.join(folder, one.output))[0]
         cells = [one.average, "yes" if one.zero_dm else "no", f"{one.dm_low:.2f}", f"{one.dm_high:.2f}",
                  f"{one.min_delay} to {one.max_delay}", one.widths, f"{one.mean:g}", f"{one.sd:g}", f"{one.snr:g}",
-                 one.spectra, len(searched.pulses)]
+                 one.spectra, len(found.folds if one.fold_max else found.pulses)]
         rows.append({"name": one.name, "cells": cells})
         raised += [f"{one.name}: the spectra {part.first} to {part.until} had too many lines, and were searched from the "
-                   f"ratio {part.snr:g} on" for part in one.raised]
+                   f"ratio {part.snr:g} on" for part in one.raised[:MOST_RAISED]]
+        if len(one.raised) > MOST_RAISED:
+            raised.append(f"{one.name}: so were {len(one.raised) - MOST_RAISED} more stretches")
     return {"searches": rows, "raised": raised}
 
 
@@ -209,14 +214,15 @@ def drawn(draw: Callable[..., Figure], asked: tuple[Any, ...]) -> tuple[str, str
         return "", refusal.line
 
 
-def folds_of(folder: str, hunt: Hunt, searches: Sequence[Searched]) -> list[dict[str, str]]:
+def folds_of(folder: str, hunt: Hunt) -> list[dict[str, str]]:
     """The strongest folds, each period once, with their pictures."""
     best = []
-    for one, searched in zip(hunt.searches, searches):
+    for one in hunt.searches:
         if not one.fold_max:
             continue
+        search = searched(folder, hunt, one)
         found = read(os.path.join(folder, one.output))[0].folds
-        table = fold_table(found, searched.head, searched.mean, searched.deviation)
+        table = fold_table(found, search.head, search.mean, search.deviation)
         best += [(one, row) for row in table[strongest(table, table["snr"], MOST_FOLDS)[0]]]
     chosen: list[tuple[SearchPass, np.void]] = []
     for one, row in sorted(best, key=lambda fold: -float(fold[1]["snr"])):

@@ -194,6 +194,12 @@ def test_more_channels_than_a_search_takes(tmp_path: Path, capsys: pytest.Captur
         psr_fil([write(tmp_path / "b.fil", bytes(4099), nchans=4099, foff=-0.03), str(tmp_path / "other.dada")])
 
 
+@pytest.mark.parametrize("start", [0.0, -1.5, 1e300])
+def test_a_day_that_no_telescope_saw(tmp_path: Path, start: float) -> None:
+    psr_fil([write(tmp_path / "a.fil", bytes(640), tstart=start), str(tmp_path / "out.dada")])
+    assert "UTC_START" not in header(str(tmp_path / "out.dada")).fields
+
+
 def test_a_sampling_time_with_more_decimals(tmp_path: Path, capsys: pytest.CaptureFixture[str]) -> None:
     psr_fil([write(tmp_path / "a.fil", bytes(640), tsamp=65.4766e-6), str(tmp_path / "out.dada")])
     assert header(str(tmp_path / "out.dada")).sample_ns == 65477

@@ -202,6 +202,12 @@ def test_what_is_refused(tmp_path: Path, more: dict[str, object], line: str) -> 
     assert refusal.value.status == 3 and line in refusal.value.line and not (tmp_path / "out.dada").exists()
 
 
+@pytest.mark.parametrize("day", [0, 10**12])
+def test_a_day_that_no_telescope_saw(tmp_path: Path, day: int) -> None:
+    psr_fits([write(tmp_path / "a.fits", noise(), primary={"STT_IMJD": day}), str(tmp_path / "out.dada")])
+    assert "UTC_START" not in header(str(tmp_path / "out.dada")).fields
+
+
 @pytest.mark.parametrize("card", [b"TFORM3  ", b"TTYPE6  ", b"TBIN    ", b"NSBLK   "])
 def test_damaged_headers(tmp_path: Path, card: bytes) -> None:
     path = Path(write(tmp_path / "a.fits", noise()))
