@@ -1,14 +1,12 @@
 #!/usr/bin/env bash
 # Blocks a second through a ring, from one writer to 1, 4 and 8 readers in threads: here, and to a lock-free ring and to
-# semaphores in C, which do the same work. Each runs for a second at least, and the best of three counts, in turns.
+# semaphores in C, which do the same work. Each runs for at least a second, and the best of three counts, in turns.
 set -eu
-cd "$(dirname "$0")/../crates/ring_bench"
-cpu=$(grep -qw avx2 /proc/cpuinfo && echo x86-64-v3 || echo x86-64)
-rt run --cpu="$cpu" >/dev/null
-program=$(mktemp)
-trap 'rm -f "$program"' EXIT
-gcc -O3 -march="$cpu" -pthread -o "$program" ../../bench/ring.c
-rate() { # rate WORDS..: blocks a second, over so many blocks that they take a second
+. "$(dirname "$0")/common.bash"
+make_folder
+ring_bench=$(build ring_bench)
+gcc -O3 -march="$cpu" -pthread -o "$folder/ring" "$root/bench/ring.c"
+rate() { # rate COMMAND ..: blocks a second, over as many blocks as take a second
     local blocks=500 answer millis
     while
         answer=$("$@" "$blocks")
@@ -19,18 +17,17 @@ rate() { # rate WORDS..: blocks a second, over so many blocks that they take a s
     done
     sed -n 's/^\([0-9]*\) blocks and .*/\1/p' <<<"$answer"
 }
-best() { sort -n | tail -1; }
 uptime
 for size in 64 4096 524288; do
     for readers in 1 4 8; do
         here=() free=() semaphores=()
         for _ in 1 2 3; do
-            here+=("$(rate out/ring_bench "$size" "$readers")")
-            free+=("$(rate "$program" free "$size" "$readers")")
-            semaphores+=("$(rate "$program" semaphores "$size" "$readers")")
+            here+=("$(rate "$ring_bench" "$size" "$readers")")
+            free+=("$(rate "$folder/ring" free "$size" "$readers")")
+            semaphores+=("$(rate "$folder/ring" semaphores "$size" "$readers")")
         done
-        a=$(printf '%s\n' "${here[@]}" | best)
-        b=$(printf '%s\n' "${free[@]}" | best) c=$(printf '%s\n' "${semaphores[@]}" | best)
+        a=$(printf '%s\n' "${here[@]}" | greatest)
+        b=$(printf '%s\n' "${free[@]}" | greatest) c=$(printf '%s\n' "${semaphores[@]}" | greatest)
         awk -v s="$size" -v r="$readers" -v a="$a" -v b="$b" -v c="$c" 'BEGIN {
             printf "%6d B, %d readers: %8d blocks a second; lock-free in C %8d, ", s, r, a, b
             printf "semaphores %8d; here / lock-free %.2f, here / semaphores %.2f\n", c, a / b, a / c

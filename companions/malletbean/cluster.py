@@ -13,6 +13,7 @@ from dataclasses import dataclass, field
 from .pieces import Job, jobs_by_time, stretches, write_checks, write_jobs
 from .refusal import WORDS, Refusal
 from .samples import Samples
+from .why import why
 
 # the status where the folder of a plan can't be made
 FOLDER = 11
@@ -52,6 +53,9 @@ def program_at(name: str) -> str:
 
 def plan(words: Sequence[str]) -> None:
     """Makes the plan that the words ask for, and says how to run it."""
+    if list(words) == ["--help"]:
+        print(f"usage: {USAGE.removeprefix('words refused: ')}")
+        return
     if len(words) < 3:
         raise Refusal(WORDS, USAGE)
     folder, count, *rest = words
@@ -130,9 +134,10 @@ def add_option(asked: Asked, name: str, value: str) -> None:
 def judge(program: str, by_time: bool, asked: Asked) -> None:
     """Lets the program judge the words: it does so before it opens a file, and the one it is given is none."""
     front = ["1", "/dev/null"] if by_time else []
-    told = subprocess.run([program, *front, *asked.words("spectra"), "/dev/null"], capture_output=True, text=True)
+    words = [*front, *asked.words("spectra"), "/dev/null"]
+    told = subprocess.run([program, *words], capture_output=True, text=True)
     if told.returncode == 2:
-        raise Refusal(WORDS, f"{os.path.basename(program)}: {told.stderr.strip()}")
+        raise Refusal(WORDS, why(program, words) or f"{os.path.basename(program)}: {told.stderr.strip()}")
 
 
 def plan_by_time(folder: str, count: int, program: str, asked: Asked) -> int:

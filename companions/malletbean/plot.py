@@ -237,10 +237,13 @@ def draw_periods(panel: Axes, folds: Array) -> None:
 
 
 def draw_profile(panel: Axes, profile: Array, fold: np.void) -> None:
-    """The profile of a fold over its phase."""
-    panel.step(np.arange(len(profile)), profile, where="mid", linewidth=0.8)
-    panel.axvline(fold["phase"], color="tab:grey", linewidth=0.6)
-    panel.set(xlabel="phase / spectra", ylabel="S/N",
+    """The profile of a fold over two turns, with the phase of the fold in the middle of each."""
+    turn = len(profile)
+    shifts = np.arange(2 * turn) - turn // 2
+    panel.step(shifts / turn, profile[(fold["phase"] + shifts) % turn], where="mid", linewidth=0.8)
+    for number in (0, 1):
+        panel.axvline(number, color="tab:grey", linewidth=0.6)
+    panel.set(xlabel=f"turns from phase {fold['phase']} of {turn} spectra", ylabel="S/N",
               title=f"fold: DM {fold['dm']:.3f}, {fold['period_s'] * 1000:.6f} ms, {fold['rows']} rows, "
                     f"S/N {fold['snr']:.1f}")
 

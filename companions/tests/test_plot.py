@@ -54,7 +54,8 @@ def test_panels_of_folds_and_a_profile(files: dict[str, str]) -> None:
     periods, dms, profile = panels[-3:]
     assert "period" in periods.get_xlabel() and "DM" in dms.get_xlabel() and "phase" in profile.get_xlabel()
     assert len(periods.collections[0].get_offsets()) == 32
-    assert len(profile.lines[0].get_xdata()) == 100
+    turns, values = profile.lines[0].get_data()
+    assert len(turns) == 200 and turns[0] == -0.5 and values[50] == values[150] == folds[0]["phase"]
 
 
 def test_beams_stand_side_by_side(files: dict[str, str], tmp_path: Path, monkeypatch: pytest.MonkeyPatch) -> None:

@@ -1,23 +1,17 @@
 #!/usr/bin/env bash
-# Tries cluster/ on this machine: cluster.sh [FOLDER], where FOLDER has psr_make and psr_search; else those last built
-# here. An observation of 134 MB (1024 channels, 131072 spectra) is searched for pulses and folds at delays 0 to 1024 by
-# one search; by 8 jobs of a Slurm array; and by 8 jobs of GNU parallel. Then it is searched for pulses alone, by 8 jobs
-# on stretches of the time. The joined texts are those of one search, byte for byte. Then what fails: a job, a part that
-# is missing or cut, and parts that don't belong together. A hunt by Slurm and by GNU parallel is that of this machine.
+# Tries cluster/ on this machine: cluster.sh [BINDIR], where BINDIR has psr_make, psr_search and psr_part; else those
+# last built here. An observation of 134 MB (1024 channels, 131072 spectra) is searched for pulses and folds at delays
+# 0 to 1024 by one search; by 8 jobs of a Slurm array; and by 8 jobs of GNU parallel. Then it is searched for pulses
+# alone, by 8 jobs on stretches of the time. The joined outputs are those of one search, byte for byte. Then what
+# fails: a job, a part that is missing or cut, and parts that don't belong together. A hunt by Slurm and by GNU
+# parallel gives the candidates of one on this machine.
 # Slurm's daemons (slurmctld, slurmd, munged) run here for as long as this takes, with all that they write in a folder
 # of their own. As root, what is missing is installed (Debian's slurm-wlm, munge and parallel).
 set -u
 export LC_ALL=C
-root=$(cd "$(dirname "$0")/.." && pwd) || exit 2
-bin=${1:+$(cd "$1" && pwd)}
-program() { # program NAME: where it is
-    if [ -n "$bin" ]; then printf '%s/%s' "$bin" "$1"; else printf '%s/crates/%s_main/out/%s_main' "$root" "$1" "$1"; fi
-}
-psr_make=$(program psr_make) PSR_SEARCH=$(program psr_search) PSR_PART=$(program psr_part)
-export PSR_SEARCH PSR_PART
-for built in "$psr_make" "$PSR_SEARCH" "$PSR_PART"; do
-    [ -x "$built" ] || { echo "$built is not there: make install builds it" >&2; exit 2; }
-done
+. "$(dirname "$0")/../bench/common.bash"
+find_programs "${1:-}" psr_make psr_search psr_part
+export PSR_SEARCH=${at[psr_search]} PSR_PART=${at[psr_part]}
 PATH=$PATH:/usr/sbin
 engines=(slurmctld slurmd munged sbatch parallel)
 if [ "$(command -v "${engines[@]}" | wc -l)" -lt ${#engines[@]} ]; then
@@ -31,7 +25,7 @@ if [ "$(command -v "${engines[@]}" | wc -l)" -lt ${#engines[@]} ]; then
     rm "$log"
 fi
 
-folder=$(mktemp -d "${TMPDIR:-/tmp}/cluster.XXXXXX") || exit 2
+make_folder
 daemons=()
 ended() { # stops what was started here
     [ ${#daemons[@]} -eq 0 ] || { kill "${daemons[@]}"; wait "${daemons[@]}"; } 2>/dev/null
@@ -41,12 +35,6 @@ trap ended EXIT
 trap 'exit 130' INT TERM
 cd "$folder" || exit 2
 
-failed=0
-same() { # same WHAT FOUND WANTED
-    [ "$2" = "$3" ] && return
-    echo "$1: '$2', wanted '$3'" >&2
-    failed=1
-}
 timed() { # timed COMMAND ..: runs it, and sets `took`, by the clock and of the processors that it waited for
     local TIMEFORMAT='%R %U %S' status
     { took=$( { time "$@" >&3 2>&4; } 2>&1); } 3>&1 4>&2
@@ -116,7 +104,7 @@ by_slurm() { # by_slurm JOBS FOLDER ..: runs them and waits
 }
 
 # The large observation, by one search, by Slurm and by GNU parallel.
-mkdir 'the data' && "$psr_make" --number 2 --nchan 1024 --spectra 131072 --delay 512 --period 4096 --height 1 \
+mkdir 'the data' && "${at[psr_make]}" --number 2 --nchan 1024 --spectra 131072 --delay 512 --period 4096 --height 1 \
     'the data/an observation.dada' || exit 2
 words=(--mean 16 --sd 2.828 --max-delay 1024 --max-candidates 1000000
     --fold-min 3968 --fold-max 4224 --fold-rows 5 --fold-step 64 'the data/an observation.dada')
@@ -164,11 +152,11 @@ for pieces in 1 2 4 8; do
 done
 # A job reads its own piece alone: the last number before its command is how many bytes, but in the last job.
 bytes=$(sed '$d; s/ -- .*//' '8 pieces/jobs' | awk '{ sum += $NF } END { printf "%.0f", sum }')
-same '8 pieces: bytes that all but the last job read' "$bytes" $(((131072 / 8 * 7 + 7 + 6 * 1032) * 1024))
+same '8 pieces: bytes that all but the last job read' "$bytes" $(((131072 * 7 / 8 + 7 + 6 * 1032) * 1024))
 
 # Two observations in one array, ranges that begin at multiples of an odd step from an odd delay, and two files.
 small=(--nchan 64 --spectra 8192 --delay 100 --period 512 --height 2)
-"$psr_make" "${small[@]}" --number 3 first.dada && "$psr_make" "${small[@]}" --number 4 second.dada &&
+"${at[psr_make]}" "${small[@]}" --number 3 first.dada && "${at[psr_make]}" "${small[@]}" --number 4 second.dada &&
     head -c 300000 second.dada >front.dada || exit 2
 # The rest of the second, as a file of its own: its header with the bytes before it.
 { head -c 4096 second.dada | sed 's/^OBS_OFFSET 0$/OBS_OFFSET 295904/' | head -c 4096; tail -c +300001 second.dada; } \
@@ -198,7 +186,7 @@ same 'plan of a file that is not there: status, lines, folders' "$? $(wc -l <not
 same 'plan without a deviation: status, lines, folders' "$? $(wc -l <notes) $(ls -d none 2>/dev/null)" '2 1 '
 "$plan" none 4 "${words[@]}" --snrr 8 first.dada >said 2>notes
 same 'plan of a misspelt option: status, line, folders' "$? $(cat notes) $(ls -d none 2>/dev/null)" \
-    "2 plan: ${PSR_SEARCH##*/}: words refused "
+    '2 plan: psr_search has no option --snrr: did you mean --snr? '
 "$plan" short 4 --spectra 8192 --mean 16 --sd 2.828 --max-delay 2048 first.dada >said 2>notes
 same 'plan of short stretches: status, lines, jobs' "$? $(wc -l <notes) $(wc -l <short/jobs)" '0 1 4'
 "$plan" limited 4 "${words[@]}" --max-candidates 1 first.dada >said

@@ -1,0 +1,61 @@
+#!/usr/bin/env bash
+# Tries the programs together: check.sh [BINDIR], with those in BINDIR or those that were last built here. A made
+# observation of 1024 channels is searched by four shards and recorded in three files; one shard, the three files, and
+# psr_record give the same again; a file that exists is never overwritten; psr_mask with no mask, two parts of psr_part
+# and each of two beams of psr_beams give the output of the search, but that both beams see its pulses.
+# Statuses: 0; 1 if something differs; 2 if a program is missing.
+set -u
+. "$(dirname "$0")/../bench/common.bash"
+find_programs "${1:-}" psr_make psr_search psr_record psr_demo psr_mask psr_part psr_beams
+make_folder
+cd "$folder" || exit 2
+
+"${at[psr_make]}" --number 1 --nchan 1024 --spectra 4096 --delay 256 --period 512 --height 1 obs.dada
+same 'psr_make: status' $? 0
+arguments=(--mean 16 --sd 2.828 --max-delay 512 --max-candidates 1000000)
+recording=("${arguments[@]}" --shards 4 --hands 3 --record --file-size 1500000)
+files=(2024-01-02-03:04:05_{0000000000000000.000000,0000000001500000.000001,0000000003000000.000002}.dada)
+
+"${at[psr_search]}" "${recording[@]}" obs.dada >text
+same 'psr_search by four shards that records: status' $? 0
+same 'its last line' "$(tail -n 1 text)" 'END 348 0 4096'
+same 'its recorded files' "$(echo 2024-*.dada)" "${files[*]}"
+same 'their bytes, with headers of 4096' "$(stat -c %s "${files[@]}" | paste -sd ' ')" '1504096 1504096 1198400'
+
+"${at[psr_search]}" "${arguments[@]}" obs.dada >again
+same 'psr_search by one shard: status' $? 0
+same 'its output' "$(md5sum <again)" "$(md5sum <text)"
+"${at[psr_search]}" "${arguments[@]}" --shards 4 --hands 3 "${files[@]}" >again
+same 'psr_search of the recorded files: status' $? 0
+same 'its output' "$(md5sum <again)" "$(md5sum <text)"
+
+"${at[psr_mask]}" none "${arguments[@]}" obs.dada >again
+same 'psr_mask with no mask: status' $? 0
+same 'its output' "$(md5sum <again)" "$(md5sum <text)"
+"${at[psr_mask]}" 3,1023-1000 "${arguments[@]}" obs.dada >again
+same 'psr_mask with a mask: status' $? 0
+"${at[psr_part]}" 2000 new "${arguments[@]}" obs.dada >front
+same 'psr_part until 2000: status' $? 0
+tail -n 1 front >check
+same 'its last line' "$(cut -d ' ' -f 1,2 check)" 'CHECK 2000'
+"${at[psr_part]}" 5000 check "${arguments[@]}" obs.dada >rest
+same 'psr_part from there on: status' $? 0
+same 'both outputs' "$({ head -n -1 front; cat rest; } | md5sum)" "$(md5sum <text)"
+"${at[psr_beams]}" 0 1 "${arguments[@]}" obs.dada obs.dada >again
+same 'psr_beams: status' $? 0
+same 'its output' "$(md5sum <again)" "$(for beam in 0 1; do echo "BEAM $beam"; sed 's/^PULSE/RFI/' text; done | md5sum)"
+
+before=$(md5sum 2024-*.dada)
+"${at[psr_search]}" "${recording[@]}" obs.dada >again 2>notes
+same 'psr_search that records again: status' $? 11
+same 'its line' "$(cat notes)" 'record fault'
+same 'the files of before' "$(md5sum 2024-*.dada)" "$before"
+
+mkdir alone && cd alone || exit 2
+"${at[psr_record]}" --hands 2 --file-size 1500000 ../obs.dada
+same 'psr_record: status' $? 0
+same 'its files' "$(md5sum 2024-*.dada)" "$before"
+
+same 'psr_demo 1' "$("${at[psr_demo]}" 1 | paste -sd ' ')" 'DEMO 1 0 25652 END 821 0 4096'
+[ "$failed" = 0 ] && echo "the programs in $(dirname "${at[psr_search]}") do as they should: ${!at[*]}"
+exit "$failed"
