@@ -3,7 +3,8 @@
 # last built here. An observation of 134 MB (1024 channels, 131072 spectra) is searched for pulses and folds at delays
 # 0 to 1024 by one search; by 8 jobs of a Slurm array; and by 8 jobs of GNU parallel. Then it is searched for pulses
 # alone, by 8 jobs on stretches of the time. The joined outputs are those of one search, byte for byte. Then what
-# fails: a job, a part that is missing or cut, and parts that don't belong together.
+# fails: a job, a part that is missing or cut, and parts that don't belong together. A hunt by Slurm and by GNU parallel
+# is that of this machine.
 # Slurm's daemons (slurmctld, slurmd, munged) run here for as long as this takes, with all that they write in a folder
 # of their own. As root, what is missing is installed (Debian's slurm-wlm, munge and parallel).
 set -u
@@ -195,6 +196,22 @@ same 'parallel with a limit that is too low: status, lines' \
 same 'what the jobs left' "$(cd limited && echo *.text *.error | wc -w)" 5
 by_slurm 4 limited
 same 'sbatch with a limit that is too low: status' $? 9
+
+# A hunt by each engine: the same texts.
+PSR_LEVEL=$(command -v "${bin:+$bin/}psr_level" || echo "$root/companions/psr_level")
+export PSR_LEVEL
+hunted() { # hunted ENGINE WORD ..: hunts by an engine, and compares the texts with those of the first hunt
+    local engine=$1
+    shift
+    timed "$root/companions/psr_hunt" first.dada --dm 0 20 -o "hunt by $engine" "$@" >said 2>notes
+    same "psr_hunt by $engine: status, line" "$? $(cat notes)" '0 '
+    same "psr_hunt by $engine: texts" "$(cd "hunt by $engine" && cat -- *.text | md5sum)" \
+        "$(cd 'hunt by cores' && cat -- *.text | md5sum)"
+    echo "psr_hunt by $engine: ${took% (*}"
+}
+hunted cores
+hunted slurm --slurm
+hunted parallel --parallel '--jobs 2'
 
 # Parts that don't belong together, and what is no whole text.
 refused() { # refused STATUS PART ..: join refuses these, and prints nothing

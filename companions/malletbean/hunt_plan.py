@@ -35,6 +35,8 @@ WIDEST_BOX = 32
 LONG_DELAYS = 12
 # a pulse may be found some delays off its own
 DELAYS_OFF = 6
+# a level has at least so many spectra, if it isn't the observation itself
+LEAST_SPECTRA = 64
 # how many lines noise alone may give for a spectrum
 NOISE_LINES = 0.02
 # at how many delays the noise is judged
@@ -114,7 +116,10 @@ def ranges(head: Header, sought: Sought) -> list[Range]:
     levels = averages(head, sought)
     found = list[Range]()
     for average, first in levels:
-        level, last = level_header(head, average), reach(head, average, native)
+        level = level_header(head, average)
+        last = min(reach(head, average, native), level.spectra - 1)
+        if average > 1 and level.spectra < LEAST_SPECTRA:
+            continue
         wide = WIDE_BOX
         if average == levels[-1][0]:
             wide = max(wide, min(WIDEST_BOX, power_above(sought.widest / average)))

@@ -94,6 +94,16 @@ def test_what_is_out_of_reach() -> None:
         planned(receiver(1024, 1382, -400, 64, 1000), Sought(500, 1000, 8, 6.5))
 
 
+@pytest.mark.parametrize("spectra", [2, 40, 1000, 20000])
+def test_short_observations(spectra: int) -> None:
+    head = receiver(1024, 1382, -400, 64, spectra)
+    levels, searches = planned(head, Sought(0, 1000, 512, 6.5))
+    assert searches[0].average == 1 and searches[0].min_delay == 0
+    for one in searches:
+        assert one.max_delay < one.spectra and (one.average == 1 or one.spectra >= 64)
+    assert {one.level for one in searches} == {level.path for level in levels}
+
+
 def test_powers() -> None:
     assert [power_above(one) for one in (0.1, 1, 1.1, 2, 3, 500, 512)] == [1, 1, 2, 2, 4, 512, 512]
 
