@@ -126,9 +126,11 @@ def check_leading(program: str, option: Option, argument: str) -> None:
         raise Wrong(f"{argument} stands where {option.name} has to be: {stands}")
     if option.limits is None:
         return
-    if os.path.isfile(argument):
+    fault = value_fault(option, argument, {})
+    if fault and os.path.isfile(argument):
         raise Wrong(f"the file {argument} stands where {option.name} has to be: {stands}")
-    check_value(option, argument, {})
+    if fault:
+        raise Wrong(fault)
 
 
 def take_option(program: str, options: dict[str, Option], given: Given, argument: str, rest: list[str]) -> None:
