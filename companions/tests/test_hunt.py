@@ -14,7 +14,7 @@ import pytest
 
 import made
 from conftest import HERE
-from malletbean import hunt_pieces, hunt_text
+from malletbean import hunt, hunt_pieces, hunt_text
 from malletbean.cluster import scripts
 from malletbean.hunt import FAILED, psr_hunt
 from malletbean.manifest import SearchPass, read_manifest
@@ -40,10 +40,12 @@ def observation(tmp_path_factory: pytest.TempPathFactory) -> str:
 
 
 @pytest.fixture(autouse=True)
-def programs(tmp_path: Path, monkeypatch: pytest.MonkeyPatch) -> None:
-    """psr_level on the PATH, and three pieces of each pass."""
+def programs(request: pytest.FixtureRequest, monkeypatch: pytest.MonkeyPatch) -> None:
+    """psr_level on the PATH, three pieces of each pass, and but for one test no report, which takes its time."""
     monkeypatch.setenv("PATH", f"{os.environ['PATH']}:{HERE.parent}")
     monkeypatch.setattr(hunt_pieces, "piece_count", lambda *_: 3)
+    if "report" not in request.node.name:
+        monkeypatch.setattr(hunt, "write_report", lambda *_, **__: None)
 
 
 def hunted(monkeypatch: pytest.MonkeyPatch, *words: str) -> int:
@@ -83,10 +85,10 @@ def test_a_hunt(observation: str, tmp_path: Path, monkeypatch: pytest.MonkeyPatc
     assert len(said.splitlines()) <= 10 and said.startswith("searched ")
     strongest = re.search(r"strongest +S/N ([0-9.]+) at DM ([0-9.]+)", said)
     assert strongest and float(strongest[1]) > 12 and abs(float(strongest[2]) - DM) < 0.2
-    hunt = read_manifest(str(folder))
-    for search in hunt.searches:
+    done = read_manifest(str(folder))
+    for search in done.searches:
         # one search of the whole level, over the bounds of three pieces
-        level = hunt.level(search)
+        level = done.level(search)
         assert level.mean is not None and abs(level.mean - 14) < 0.1
         parts = (folder / "searches" / search.name / "parts").read_text().split()
         assert len(parts) == 3
@@ -107,11 +109,11 @@ def test_a_hunt(observation: str, tmp_path: Path, monkeypatch: pytest.MonkeyPatc
 
 
 @needs_search
-def test_what_is_of_no_more_use_goes(observation: str, tmp_path: Path, monkeypatch: pytest.MonkeyPatch) -> None:
+def test_a_report_is_written_and_what_is_of_no_more_use_goes(observation: str, tmp_path: Path, monkeypatch: pytest.MonkeyPatch) -> None:
     assert hunted(monkeypatch, observation, "--dm", "0", "20", "-o", str(tmp_path / "hunt")) == 0
     left = [path for path in (tmp_path / "hunt").rglob("*") if path.suffix in (".dada", ".error", ".out")]
     assert left == [] and not list((tmp_path / "hunt").glob("searches/*/*.text"))
-    assert (tmp_path / "hunt" / "candidates.csv").exists()
+    assert all((tmp_path / "hunt" / name).exists() for name in ("candidates.csv", "report.html"))
 
 
 @needs_search
@@ -133,6 +135,20 @@ def test_a_job_that_fails(observation: str, tmp_path: Path, monkeypatch: pytest.
     assert {path: path.stat().st_mtime_ns for path in before} == before
     assert hunted(monkeypatch, *words, str(tmp_path / "other")) == 0
     assert texts(folder) == texts(tmp_path / "other")
+
+
+@needs_search
+def test_a_full_disk(observation: str, tmp_path: Path, monkeypatch: pytest.MonkeyPatch,
+                     capsys: pytest.CaptureFixture[str]) -> None:
+    folder = tmp_path / "hunt"
+    words = [observation, "--dm", "0", "20", "-o", str(folder)]
+    # a file may not become as large as the level of all spectra
+    script = f"ulimit -f 200; exec {sys.executable} {HERE.parent}/psr_hunt {' '.join(words)}"
+    answer = subprocess.run(["bash", "-c", script], capture_output=True, text=True)
+    assert answer.returncode == FAILED
+    assert "levels/k1.dada failed: status 10: " in answer.stderr and answer.stderr.count("\n") == 1
+    assert (folder / "levels" / "k16.dada").exists()
+    assert hunted(monkeypatch, *words) == 0
 
 
 @needs_search
@@ -261,6 +277,18 @@ def test_what_is_refused(observation: str, tmp_path: Path, monkeypatch: pytest.M
     assert hunted(monkeypatch, *given) == status
     answer = capsys.readouterr()
     assert line in answer.err and answer.err.count("\n") == 1 and answer.out == ""
+    assert list(tmp_path.iterdir()) == []
+
+
+def test_programs_that_are_not_there(observation: str, tmp_path: Path, monkeypatch: pytest.MonkeyPatch,
+                                     capsys: pytest.CaptureFixture[str]) -> None:
+    words = [observation, "--dm", "0", "9", "-o", str(tmp_path / "hunt")]
+    monkeypatch.setenv("PATH", "/nowhere")
+    for more, line in (([], "psr_level is not there: put it on the PATH, or set PSR_LEVEL"),
+                       (["--slurm"], "argument --slurm: sbatch is not on the PATH"),
+                       (["--parallel", "-j 2"], "argument --parallel: parallel is not on the PATH")):
+        assert hunted(monkeypatch, *words, *more) == 2
+        assert line in capsys.readouterr().err
     assert list(tmp_path.iterdir()) == []
 
 
