@@ -3,8 +3,8 @@
 # last built here. An observation of 134 MB (1024 channels, 131072 spectra) is searched for pulses and folds at delays
 # 0 to 1024 by one search; by 8 jobs of a Slurm array; and by 8 jobs of GNU parallel. Then it is searched for pulses
 # alone, by 8 jobs on stretches of the time. The joined outputs are those of one search, byte for byte. Then what
-# fails: a job, a part that is missing or cut, and parts that don't belong together. A hunt by Slurm and by GNU
-# parallel is that of this machine.
+# fails: a job, a part that is missing or cut, and parts that don't belong together. A hunt by Slurm and by GNU parallel
+# is that of this machine.
 # Slurm's daemons (slurmctld, slurmd, munged) run here for as long as this takes, with all that they write in a folder
 # of their own. As root, what is missing is installed (Debian's slurm-wlm, munge and parallel).
 set -u

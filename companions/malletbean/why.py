@@ -79,15 +79,15 @@ def program_named(program: str) -> str:
     return name
 
 
-def perhaps(word: str, words: Iterable[str]) -> str:
-    """The nearest of some words, as a question."""
-    near = get_close_matches(word, list(words), n=1, cutoff=0.6)
+def perhaps(name: str, names: Iterable[str]) -> str:
+    """The nearest of some names, as a question."""
+    near = get_close_matches(name, list(names), n=1, cutoff=0.6)
     return f": did you mean {near[0]}?" if near else ""
 
 
-def either(words: Sequence[str], last: str = "or") -> str:
-    """Words as they are listed in a sentence."""
-    return f" {last} ".join(filter(None, (", ".join(words[:-1]), words[-1])))
+def either(names: Sequence[str], last: str = "or") -> str:
+    """Names as they are listed in a sentence."""
+    return f" {last} ".join(filter(None, (", ".join(names[:-1]), names[-1])))
 
 
 # the walk over the arguments
@@ -106,16 +106,16 @@ def walked(program: str, arguments: Sequence[str]) -> Given:
         given.leading[name] = argument
     if len(arguments) < len(leading):
         raise Wrong(f"{leading[len(arguments)]} is missing: {reference().synopsis(program)}")
-    words = list(arguments[len(leading):])
+    rest = list(arguments[len(leading):])
     are_names = not any(name.startswith("--") for name in options)
-    while words:
-        word = words.pop(0)
-        if are_names or word == "-" or not word.startswith("-"):
-            given.names.append(word)
-        elif word == "--":
+    while rest:
+        argument = rest.pop(0)
+        if are_names or argument == "-" or not argument.startswith("-"):
+            given.names.append(argument)
+        elif argument == "--":
             are_names = True
         else:
-            take_option(program, options, given, word, words)
+            take_option(program, options, given, argument, rest)
     return given
 
 
@@ -126,14 +126,16 @@ def check_leading(program: str, option: Option, argument: str) -> None:
         raise Wrong(f"{argument} stands where {option.name} has to be: {stands}")
     if option.limits is None:
         return
-    if os.path.isfile(argument):
+    fault = value_fault(option, argument, {})
+    if fault and os.path.isfile(argument):
         raise Wrong(f"the file {argument} stands where {option.name} has to be: {stands}")
-    check_value(option, argument, {})
+    if fault:
+        raise Wrong(fault)
 
 
-def take_option(program: str, options: dict[str, Option], given: Given, word: str, words: list[str]) -> None:
-    """Takes an option, and its value, which may be the next of the words."""
-    name, equals, value = word.partition("=")
+def take_option(program: str, options: dict[str, Option], given: Given, argument: str, rest: list[str]) -> None:
+    """Takes an option, and its value, which may be the first of the rest of the arguments."""
+    name, equals, value = argument.partition("=")
     option = options.get(name)
     if option is None or not name.startswith("--"):
         raise Wrong(unknown(program, options, name))
@@ -142,18 +144,18 @@ def take_option(program: str, options: dict[str, Option], given: Given, word: st
             raise Wrong(f"{name} takes no value, and {value or 'an empty one'} is given")
         value = ""
     elif not equals:
-        value = next_value(option, words)
+        value = next_value(option, rest)
     if name in given.options:
         raise Wrong(f"{name} is given twice")
     given.options[name] = value
 
 
-def next_value(option: Option, words: list[str]) -> str:
-    """The value of an option in the word behind it."""
+def next_value(option: Option, rest: list[str]) -> str:
+    """The value of an option in the argument behind it."""
     name = option.name
-    if not words:
+    if not rest:
         raise Wrong(f"{name} has no value: it takes {option.values}")
-    value = words.pop(0)
+    value = rest.pop(0)
     if value == "-" or not value.startswith("-"):
         return value
     if value.startswith("--"):
@@ -164,7 +166,7 @@ def next_value(option: Option, words: list[str]) -> str:
 
 
 def unknown(program: str, options: dict[str, Option], name: str) -> str:
-    """Why a word that looks like an option is none."""
+    """Why an argument that looks like an option is none."""
     if name in OTHER_NAMES:
         return f"{program} has no option {name}: " + OTHER_NAMES[name].format(program=program)
     if not name.startswith("--"):
@@ -284,7 +286,7 @@ def check_names(program: str, given: Given) -> None:
 
 
 def check_observations(names: list[str]) -> None:
-    """Whether the words `+` part the names into observations that each have one."""
+    """Whether `+` parts the names into observations that each have one."""
     observations = " ".join("+" if name == "+" else "." for name in names).split("+")
     if len(observations) > MOST_OBSERVATIONS:
         raise Wrong(f"+ parts {len(observations)} observations, and at most {MOST_OBSERVATIONS} are taken")
@@ -309,8 +311,9 @@ def check_one_search(program: str, given: Given) -> None:
 
 def check_files(program: str, given: Given) -> None:
     """Whether every file that is read can be opened."""
-    if program in ("psr_make", "psr_demo"):
+    if program == "psr_make":
         check_new(given)
+    if program in ("psr_make", "psr_demo"):
         return
     check = given.leading.get("CHECK", "new")
     if check != "new":
@@ -439,12 +442,12 @@ class Arguments(argparse.ArgumentParser):
         sys.exit(REFUSED)
 
 
-def main(words: Sequence[str]) -> int:
-    """Says why the command that the words are is refused, and answers the status of psr_why."""
+def main(arguments: Sequence[str]) -> int:
+    """Says why the command that the arguments are is refused, and answers the status of psr_why."""
     parser = Arguments("psr_why", description="Says in one sentence why a proved program refuses its arguments.")
     parser.add_argument("program", metavar="PROGRAM", help="the program, as psr_search")
     parser.add_argument("arguments", metavar="ARGUMENT", nargs=argparse.REMAINDER, help="what it was given")
-    asked = parser.parse_args(words)
+    asked = parser.parse_args(arguments)
     said = why(asked.program, asked.arguments)
     name = os.path.basename(asked.program)
     print(f"{name}: {said}" if said else f"{name}: nothing is seen here that is refused before the data are read")

@@ -147,6 +147,7 @@ RIGHT = [
     "psr_beams 0 1 SEARCH obs.dada obs.dada",
     "psr_record --hands 3 obs.dada",
     "psr_make --number 9223372036854775807 --nbit 16 new.dada",
+    "psr_demo 1",
 ]
 
 
@@ -163,6 +164,7 @@ def folder(tmp_path: Path, monkeypatch: pytest.MonkeyPatch) -> Path:
     Path("part.text").write_text("PULSE 20 19 0.926 1 1224 51\nCHECK 100 1\n", encoding="ascii")
     Path("later").write_text("CHECK 200 1\n", encoding="ascii")
     Path("folder").mkdir()
+    Path("1").touch()
     Path("link.dada").symlink_to("nothing.dada")
     return tmp_path
 
