@@ -29,12 +29,13 @@ def check_fits(path: str, found: Found, head: Header, mean: float, deviation: fl
 
 def printed_ratio(lines: Array, mean: float, deviation: float) -> Array:
     """The ratio by which the search judges: all samples of a sum are taken to be independent."""
-    return (lines["sum"] - lines["cells"] * mean) / (deviation * np.sqrt(lines["cells"]))
+    return true_ratio(lines, lines["cells"], mean, deviation)
 
 
 def true_ratio(lines: Array, noise_cells: Array, mean: float, deviation: float) -> Array:
     """The ratio to the true noise of the sums, which count the samples that their path sums share several times."""
-    return (lines["sum"] - lines["cells"] * mean) / (deviation * np.sqrt(noise_cells))
+    ratios: Array = (lines["sum"] - lines["cells"] * mean) / (deviation * np.sqrt(noise_cells))
+    return ratios
 
 
 def pulse_noise_cells(pulses: Array, head: Header) -> Array:
@@ -83,7 +84,8 @@ def shared_by_delay(head: Header, delays: Array) -> list[Array]:
 
 def top_spectra(pulses: Array) -> Array:
     """The spectrum at which each pulse leaves the top of the band."""
-    return pulses["end"] - pulses["delay"]
+    spectra: Array = pulses["end"] - pulses["delay"]
+    return spectra
 
 
 def utc(spectra: Array, head: Header) -> Array:
@@ -117,7 +119,7 @@ def fold_table(folds: Array, head: Header, mean: float, deviation: float) -> Arr
 def with_columns(lines: Array, columns: dict[str, Array]) -> Array:
     """The lines with further columns behind their own."""
     table = np.empty(len(lines), lines.dtype.descr + [(name, column.dtype.str) for name, column in columns.items()])
-    for name in lines.dtype.names:
+    for name in lines.dtype.names or ():
         table[name] = lines[name]
     for name, column in columns.items():
         table[name] = column
@@ -128,7 +130,8 @@ def are_near_periods(folds: Array, one: np.void) -> Array:
     """Which folds drift by less than a turn against a fold over its rows."""
     periods = folds["period"] + folds["trial"] / (folds["rows"] - 1)
     period = one["period"] + one["trial"] / (one["rows"] - 1)
-    return np.less(np.abs(periods - period) * one["rows"], period)
+    are_near: Array = np.abs(periods - period) * one["rows"] < period
+    return are_near
 
 
 def strongest(folds: Array, ratio: Array, count: int) -> tuple[Array, Array]:

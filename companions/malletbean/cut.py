@@ -37,7 +37,7 @@ def psr_cut(words: Sequence[str]) -> None:
 def parsed(words: Sequence[str]) -> argparse.Namespace:
     """The words of the command."""
     parser = Words(prog="psr_cut", description="Writes an observation, or a part of its time, as a SIGPROC filterbank.")
-    parser.add_argument("file", metavar="FILE", help="a DADA file of filterbank samples, or the first of an observation")
+    parser.add_argument("file", metavar="FILE", help="a DADA file of filterbank samples, the first of an observation")
     parser.add_argument("output", metavar="FIL", help="the filterbank, which must not be there")
     parser.add_argument("--from", metavar="SECONDS", dest="begin", type=seconds, default=0.0,
                         help="where the part begins, after the beginning of FILE (0)")

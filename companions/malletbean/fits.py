@@ -119,7 +119,8 @@ class Observation:
         for begin in range(0, len(raw), at_a_time):
             values = raw[begin:begin + at_a_time]
             if self._uniform is None:
-                values = (values - rows.layout.zero) * scales[self._chosen, :] + offsets[self._chosen, :]
+                values = values.astype(np.float32) - np.float32(rows.layout.zero)
+                values = values * scales[self._chosen, :] + offsets[self._chosen, :]
                 values[:, :, weights == 0] = np.nan
             elif self.bits is None:
                 values = np.where(self._uniform == 0, np.nan, values)

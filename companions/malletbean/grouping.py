@@ -16,7 +16,7 @@ from collections.abc import Iterator, Sequence
 from dataclasses import dataclass
 
 import numpy as np
-from scipy.special import erf
+from scipy.special import erf  # type: ignore[import]
 
 from .arrays import Array
 from .candidates import pulse_noise_cells, true_ratio
@@ -170,8 +170,9 @@ def grouped(searches: Sequence[Searched]) -> Groups:
 
 def levels_of(lines: Lines, base: float) -> Array:
     """The level of the cells in which lines lie: their size is the width of the box, rounded to a power of two."""
-    levels = np.rint(np.log2(lines.width / base)).astype(np.int64)
-    return np.clip(levels, 0, 2**LEVEL_BITS - 1)
+    levels: Array = np.rint(np.log2(lines.width / base)).astype(np.int64)
+    np.clip(levels, 0, 2**LEVEL_BITS - 1, out=levels)
+    return levels
 
 
 def cell_numbers(levels: Array, times: Array, delays: Array) -> Array:
@@ -204,7 +205,8 @@ def neighbours(cells: Lines, base: float) -> Iterator[tuple[Array, Array]]:
     """
     levels, times, delays = places_in_cells(cells, base)
     numbers = cell_numbers(levels, times, delays)
-    others = [cell_numbers(levels, times + later, delays + longer) for later, longer in ((0, 1), (1, -1), (1, 0), (1, 1))]
+    beside = ((0, 1), (1, -1), (1, 0), (1, 1))
+    others = [cell_numbers(levels, times + later, delays + longer) for later, longer in beside]
     others.append(cell_numbers(levels + 1, times >> 1, delays >> 1))
     for wanted in others:
         places = np.minimum(np.searchsorted(numbers, wanted), len(numbers) - 1)
@@ -268,13 +270,15 @@ def most_at(energy: Array | float, width: Array | float, box: Array, off: Array,
     """The greatest S/N that a box can have of a pulse of this energy and width whose delay is off by `off`."""
     # a pulse is caught whole, or what a box that is as wide as it, or as wide as its spread, would leave of it
     spread = np.maximum(np.maximum(box, width), off / density)
-    return energy * np.sqrt(box) / spread
+    most: Array = energy * np.sqrt(box) / spread
+    return most
 
 
 def curve_at(off: Array, width: float) -> Array:
     """What part of its S/N a box as wide as its pulse has where the delay is off (Cordes and McLaughlin 2003)."""
     zeta = np.maximum(ZETA * np.abs(off) / width, 1e-9)
-    return np.sqrt(np.pi) / 2 * erf(zeta) / zeta
+    part: Array = np.sqrt(np.pi) / 2 * erf(zeta) / zeta
+    return part
 
 
 def explained(peaks: Lines, energy: Array, density: float) -> Array:
@@ -339,14 +343,16 @@ def rows_of(search: Searched, pulses: Array) -> Array:
     table["width_ms"] = pulses["width"] * head.seconds * 1000
     table["averaged"], table["search"], table["zero_dm"] = search.averaged, search.name, search.zero_dm
     table["utc_top"] = head.start + nanoseconds(table["time_top"])
-    table["utc_infinite"] = head.start + nanoseconds(table["time_top"] - pulses["delay"] * head.seconds * above_top(head))
+    before_top = pulses["delay"] * head.seconds * above_top(head)
+    table["utc_infinite"] = head.start + nanoseconds(table["time_top"] - before_top)
     table["mjd_infinite"] = mjd_of(table["utc_infinite"])
     return table
 
 
 def nanoseconds(seconds: Array) -> Array:
     """Seconds as a difference of times."""
-    return np.rint(seconds * 1e9).astype("timedelta64[ns]")
+    found: Array = np.rint(seconds * 1e9).astype("timedelta64[ns]")
+    return found
 
 
 def above_top(head: Header) -> float:
@@ -375,8 +381,9 @@ def dm_errors(searches: Sequence[Searched], groups: Groups) -> Array:
     square = np.bincount(groups.of_line, likely * square, count) / np.bincount(groups.of_line, likely, count)
     snr = lines.snr[groups.best]
     width = np.maximum(lines.width[groups.best], (groups.energy / snr)**2)
-    errors = np.sqrt(square + (DELAY_ERROR * width / snr)**2)
-    return errors / searches[0].head.seconds * dm_per_delay(searches[0].head)
+    errors: Array = np.sqrt(square + (DELAY_ERROR * width / snr)**2)
+    errors *= dm_per_delay(searches[0].head) / searches[0].head.seconds
+    return errors
 
 
 def dm_per_delay(head: Header) -> float:
@@ -422,7 +429,7 @@ def fits_curve(searches: Sequence[Searched], groups: Groups) -> Array:
     # of a pulse that is wider than all boxes one only knows that it is
     times = lines.box * np.array([search.head.seconds for search in searches])[lines.search]
     is_too_strong &= times[best] < 0.99 * times.max(initial=0)
-    fits = np.bincount(groups.of_line[is_too_strong], minlength=count) == 0
+    fits: Array = np.bincount(groups.of_line[is_too_strong], minlength=count) == 0
     for side in (1, -1):
         farthest = np.zeros(count)
         np.maximum.at(farthest, groups.of_line, side * off)
@@ -439,7 +446,7 @@ def expected_reach(searches: Sequence[Searched], groups: Groups, side: int) -> A
     np.minimum.at(weakest, kinds, lines.snr)
     least = (weakest[kinds[best]] + NOISE_ADDS) * SHAPE_ADDS / lines.snr[best]
     zeta = np.linspace(0, 10, 2000)
-    reach = np.interp(-least, -curve_at(zeta / ZETA, 1.0), zeta) / ZETA * lines.width[best]
+    reach: Array = np.interp(-least, -curve_at(zeta / ZETA, 1.0), zeta) / ZETA * lines.width[best]
     for number, search in enumerate(searches):
         rows, seconds = np.flatnonzero(lines.search[best] == number), search.head.seconds
         room = side * ((search.longest if side > 0 else search.shortest) - lines.delay[best[rows]])

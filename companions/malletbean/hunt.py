@@ -44,7 +44,7 @@ FAILED = 14
 USUAL_WIDEST = 0.032
 USUAL_SNR = 6.5
 # how many candidates get a picture in the report
-MOST_PICTURES = 30
+MOST_PICTURES = 20
 MJD_ZERO = np.datetime64("1858-11-17", "ns")
 CONVERTED = "observation.dada"
 

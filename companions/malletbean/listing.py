@@ -154,7 +154,7 @@ def write_presto(file: IO[str], table: Array, finest: Header) -> None:
 
 
 def write_singlepulse(file: IO[str], columns: Sequence[Array]) -> None:
-    """Writes DM, S/N, the time and the sample at which the middle of a box passes the top of the band, and the width."""
+    """Writes DM, S/N, time and sample at which the middle of a box passes the top of the band, and the width."""
     file.write("# DM      Sigma      Time (s)     Sample    Downfact\n")
     write_rows(file, "%7.2f %7.2f %13.6f %10d     %3d\n", columns)
 

@@ -69,7 +69,8 @@ def fold_shifts(rows: int, trials: Array) -> Array:
 def fold_places(period: Array, rows: int, trial: Array, phase: Array) -> Array:
     """Of folds of `rows` rows: which path sums of their delay they add, one in each row, counted from the first."""
     shifted = (phase[:, None] + fold_shifts(rows, trial)) % period[:, None]
-    return np.arange(rows) * period[:, None] + shifted
+    places: Array = np.arange(rows) * period[:, None] + shifted
+    return places
 
 
 def fold_noise_cells(shared: Array, places: Array) -> Array:

@@ -4,10 +4,10 @@ from __future__ import annotations
 from dataclasses import dataclass
 
 import numpy as np
-from matplotlib.axes import Axes
-from matplotlib.colors import TwoSlopeNorm
-from matplotlib.figure import Figure
-from matplotlib.lines import Line2D
+from matplotlib.axes import Axes  # type: ignore[import]
+from matplotlib.colors import TwoSlopeNorm  # type: ignore[import]
+from matplotlib.figure import Figure  # type: ignore[import]
+from matplotlib.lines import Line2D  # type: ignore[import]
 
 from .arrays import Array
 from .candidates import pulse_noise_cells
@@ -142,13 +142,14 @@ def candidate_picture(samples: Samples, search: Searched, row: np.void) -> Figur
     milliseconds = around.times * head.seconds * 1000
     half = float(row["width_ms"]) / 2
     figure = Figure(figsize=(9.6, 5.6))
-    grid = figure.add_gridspec(2, 2, height_ratios=(1, 2.1), left=0.075, right=0.985, bottom=0.085, top=0.885, hspace=0.3,
-                               wspace=0.2)
+    grid = figure.add_gridspec(2, 2, height_ratios=(1, 2.1), left=0.075, right=0.985, bottom=0.085, top=0.885,
+                               hspace=0.3, wspace=0.2)
     profile, waterfall, curve, bow = (figure.add_subplot(grid[place]) for place in ((0, 0), (1, 0), (0, 1), (1, 1)))
     figure.suptitle(f"S/N {row['snr']:.1f}   DM {row['dm']:.2f} ± {row['dm_error']:.2f}   {row['width_ms']:.3g} ms   "
                     f"{row['time_top']:.4f} s" + (f"   {row['flag']}" if row["flag"] else ""),
                     fontsize=11, x=0.075, ha="left", parse_math=False)
-    profile.step(milliseconds, np.append(around.profile, around.profile[-1]), where="post", color="black", linewidth=0.8)
+    profile.step(milliseconds, np.append(around.profile, around.profile[-1]), where="post", color="black",
+                 linewidth=0.8)
     profile.axvspan(-half, half, color=CURVE, alpha=0.25, linewidth=0)
     profile.set(ylabel="S/N", xlim=(milliseconds[0], milliseconds[-1]), title="profile, and the box that was found")
     top, foot = head.edges_khz[0] / 1000, head.edges_khz[-1] / 1000
@@ -189,10 +190,10 @@ def draw_bow(panel: Axes, around: Near, row: np.void, head: Header, milliseconds
     """DM against the time at which a box passes the middle of its delay."""
     unit = float(row["dm"]) / int(row["delay"]) if row["delay"] else head.dm(1)
     step = (around.delays[1] - around.delays[0]) * unit
-    extent = (milliseconds[0], milliseconds[-1], around.delays[0] * unit - step / 2, around.delays[-1] * unit + step / 2)
+    low, high = around.delays[0] * unit - step / 2, around.delays[-1] * unit + step / 2
     strength = TwoSlopeNorm(3, -2, max(6.0, float(around.bow.max())))
-    panel.imshow(around.bow, aspect="auto", origin="lower", extent=extent, interpolation="nearest", cmap="magma",
-                 norm=strength)
+    panel.imshow(around.bow, aspect="auto", origin="lower", extent=(milliseconds[0], milliseconds[-1], low, high),
+                 interpolation="nearest", cmap="magma", norm=strength)
     panel.axhline(float(row["dm"]), color="white", linewidth=0.5, alpha=0.6)
     panel.set(xlabel="time at the middle of the delay / ms", ylabel="DM / (pc/cm³)", title="S/N by DM and time")
 
@@ -203,9 +204,10 @@ def overview(lines: Array, table: Array) -> Figure:
     `lines` has the time at the top, DM and S/N of all lines.
     """
     figure = Figure(figsize=(10, 6.4))
-    grid = figure.add_gridspec(2, 2, height_ratios=(1, 1.5), left=0.065, right=0.985, bottom=0.08, top=0.95, hspace=0.28,
-                               wspace=0.16)
-    ratios, numbers, times = figure.add_subplot(grid[0, 0]), figure.add_subplot(grid[0, 1]), figure.add_subplot(grid[1, :])
+    grid = figure.add_gridspec(2, 2, height_ratios=(1, 1.5), left=0.065, right=0.985, bottom=0.08, top=0.95,
+                               hspace=0.28, wspace=0.16)
+    ratios, numbers = figure.add_subplot(grid[0, 0]), figure.add_subplot(grid[0, 1])
+    times = figure.add_subplot(grid[1, :])
     order = np.argsort(table["snr"], kind="stable")
     ordered = table[order]
     is_flagged = ordered["flag"] != ""

@@ -6,10 +6,10 @@ import os
 from collections.abc import Sequence
 from dataclasses import dataclass
 
-import matplotlib
+import matplotlib  # type: ignore[import]
 import numpy as np
-from matplotlib.axes import Axes
-from matplotlib.figure import Figure
+from matplotlib.axes import Axes  # type: ignore[import]
+from matplotlib.figure import Figure  # type: ignore[import]
 
 from .arrays import Array
 from .candidates import fold_table, pulse_table
@@ -101,11 +101,13 @@ def title_of(asked: argparse.Namespace, head: Header, spectra: int) -> str:
 
 def chosen(folds: Array, asked: argparse.Namespace) -> np.void:
     """The FOLD line whose profile is asked for."""
-    if asked.fold == "best" and len(folds):
-        return folds[np.argmax(folds["snr"])]
-    if asked.fold == "best" or int(asked.fold) >= len(folds):
+    place = int(np.argmax(folds["snr"])) if asked.fold == "best" and len(folds) else len(folds)
+    if asked.fold != "best":
+        place = int(asked.fold)
+    if place >= len(folds):
         raise Refusal(TEXT, f"{asked.text} has {len(folds)} FOLD lines, and not the one that --fold names")
-    return folds[int(asked.fold)]
+    fold: np.void = folds[place]
+    return fold
 
 
 def profile_of(samples: Samples, fold: np.void, asked: argparse.Namespace) -> Array:
@@ -115,7 +117,8 @@ def profile_of(samples: Samples, fold: np.void, asked: argparse.Namespace) -> Ar
     if profile[fold["phase"]] != fold["sum"]:
         raise Refusal(TEXT, f"{asked.text} refused: the SUM of the fold is not that of the data of {asked.file}")
     excess = profile - int(fold["cells"]) * asked.mean
-    return excess * (fold["snr"] / excess[fold["phase"]])
+    ratios: Array = excess * (fold["snr"] / excess[fold["phase"]])
+    return ratios
 
 
 def new_figure(is_shown: bool) -> Figure:
@@ -152,7 +155,7 @@ def draw(figure: Figure, picture: Picture) -> None:
     if len(picture.folds):
         draw_periods(panels["periods"], picture.folds)
         draw_snr(panels["fold_dms"], picture.folds, "FOLD")
-    if picture.profile is not None:
+    if picture.profile is not None and picture.fold is not None:
         draw_profile(panels["profile"], picture.profile, picture.fold)
 
 
@@ -274,10 +277,12 @@ def cell_numbers(values: Array, count: int) -> Array:
     least, greatest = values.min(), values.max()
     if least == greatest:
         return np.zeros(len(values), np.int64)
-    return np.minimum(((values - least) * (count / (greatest - least))).astype(np.int64), count - 1)
+    cells: Array = np.minimum(((values - least) * (count / (greatest - least))).astype(np.int64), count - 1)
+    return cells
 
 
 def areas(ratios: Array) -> Array:
     """The areas of circles in square points: they grow with S/N, from the least one on."""
     least, greatest = ratios.min(), ratios.max()
-    return LEAST_AREA + (GREATEST_AREA - LEAST_AREA) * (ratios - least) / max(greatest - least, LEAST_GROWTH)
+    grown: Array = (GREATEST_AREA - LEAST_AREA) * (ratios - least) / max(greatest - least, LEAST_GROWTH)
+    return LEAST_AREA + grown

@@ -103,9 +103,10 @@ class Rows:
         shape = layout.polarisations, layout.channels
 
         def column(name: str, default: float) -> Array:
-            values = np.full(shape, default)
+            values = np.full(shape, default, np.float32)
             if name in names:
-                values = np.array(self._rows[name][number], float).reshape(-1)[:shape[0] * shape[1]].reshape(shape)
+                stored = np.array(self._rows[name][number], np.float32).reshape(-1)
+                values = stored[:shape[0] * shape[1]].reshape(shape)
             return values
 
         weights = np.ones(layout.channels)

@@ -16,7 +16,7 @@ from typing import Any
 
 import jinja2
 import numpy as np
-from matplotlib.figure import Figure
+from matplotlib.figure import Figure  # type: ignore[import]
 
 from .arrays import Array
 from .candidates import fold_table, strongest
@@ -62,8 +62,8 @@ def write_report(folder: str, most: int = 20) -> None:
     text = jinja2.Environment(autoescape=True).from_string(PAGE).render(
         **said_of(hunt, table), **rows_of(table, most), **searches_said(folder, hunt),
         observation=observation_lines(hunt), header=header_of(folder, hunt),
-        overview=embedded(overview(dots_of(searches), table)), pictures=pictures_of(folder, hunt, searches, table[:most]),
-        folds=folds_of(folder, hunt),
+        overview=embedded(overview(dots_of(searches), table)), folds=folds_of(folder, hunt),
+        pictures=pictures_of(folder, hunt, searches, table[:most]),
     )
     with whole_file(os.path.join(folder, "report.html")) as name, open(name, "w", encoding="utf-8") as file:
         file.write(text)
@@ -75,9 +75,10 @@ def said_of(hunt: Hunt, table: Array) -> dict[str, Any]:
     top, foot = sky.freq + abs(sky.bw) / 2, sky.freq - abs(sky.bw) / 2
     clean = table[table["flag"] == ""]
     strongest_one = f"{clean['snr'][0]:.1f} at DM {clean['dm'][0]:.1f}" if len(clean) else "none"
+    source = sky.source or os.path.basename(hunt.inputs[0])
     named = [sky.telescope, sky.utc_start, f"{sky.spectra * sky.tsamp:.1f} s", f"{foot:g} to {top:g} MHz"]
     return {
-        "title": f"{sky.source or os.path.basename(hunt.inputs[0])}: candidates at DM {hunt.dm_low:g} to {hunt.dm_high:g}",
+        "title": f"{source}: candidates at DM {hunt.dm_low:g} to {hunt.dm_high:g}",
         "subtitle": ", ".join(part for part in named if part),
         "tiles": [(len(clean), "candidates without a flag"), (len(table) - len(clean), "candidates with a flag"),
                   (strongest_one, "strongest S/N without a flag"),
@@ -146,8 +147,8 @@ def searches_said(folder: str, hunt: Hunt) -> dict[str, Any]:
                  f"{one.min_delay} to {one.max_delay}", one.widths, f"{one.mean:g}", f"{one.sd:g}", f"{one.snr:g}",
                  one.spectra, len(found.folds if one.fold_max else found.pulses)]
         rows.append({"name": one.name, "cells": cells})
-        raised += [f"{one.name}: the spectra {part.first} to {part.until} had too many lines, and were searched from the "
-                   f"ratio {part.snr:g} on" for part in one.raised[:MOST_RAISED]]
+        raised += [f"{one.name}: the spectra {part.first} to {part.until} had too many lines, and were searched from "
+                   f"the ratio {part.snr:g} on" for part in one.raised[:MOST_RAISED]]
         if len(one.raised) > MOST_RAISED:
             raised.append(f"{one.name}: so were {len(one.raised) - MOST_RAISED} more stretches")
     return {"searches": rows, "raised": raised}

@@ -47,18 +47,19 @@ class Scaler:
         """The values, by spectrum, channel and polarisation, with 8 bits. NaN and infinite ones become the mean."""
         if not self._is_fixed:
             self._fit(np.array_split(values, min(PARTS, len(values))))
-        level = values.astype(np.float64)
-        is_known = np.isfinite(level)
-        level[~is_known] = 0
-        level *= self._gains
-        level += self._offsets
-        level[~is_known] = MEAN
+        # 24 bits are enough for values that have no more
+        kind = np.float32 if values.dtype.itemsize <= 4 and values.dtype.kind == "f" else np.float64
+        with np.errstate(over="ignore", invalid="ignore"):
+            level: Array = values.astype(kind) * self._gains.astype(kind)
+            level += self._offsets.astype(kind)
+        is_unknown = ~np.isfinite(values)
+        level[is_unknown] = MEAN
         np.rint(level, out=level)
+        written = np.clip(level, 0, MOST)
         self.count += level.size
-        self.cut += int(((level < 0) | (level > MOST)).sum())
-        self.unknown += level.size - int(is_known.sum())
-        written: Array = np.clip(level, 0, MOST).astype(np.uint8)
-        return written
+        self.cut += int(np.count_nonzero(written != level))
+        self.unknown += int(np.count_nonzero(is_unknown))
+        return written.astype(np.uint8)
 
     def said(self) -> list[str]:
         """What is worth knowing of the values: lines for standard output."""

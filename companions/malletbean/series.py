@@ -7,8 +7,8 @@ from collections.abc import Iterator, Sequence
 from dataclasses import dataclass
 
 import numpy as np
-from matplotlib.axes import Axes
-from matplotlib.figure import Figure
+from matplotlib.axes import Axes  # type: ignore[import]
+from matplotlib.figure import Figure  # type: ignore[import]
 
 from .arrays import Array
 from .candidates import cells_by_delay
@@ -46,7 +46,7 @@ def psr_series(words: Sequence[str]) -> None:
 def parsed(words: Sequence[str]) -> argparse.Namespace:
     """The words of the command."""
     parser = Words(prog="psr_series", description="Writes dedispersed series: .dat with .inf for PRESTO, and .tim.")
-    parser.add_argument("file", metavar="FILE", help="a DADA file of filterbank samples, or the first of an observation")
+    parser.add_argument("file", metavar="FILE", help="a DADA file of filterbank samples, the first of an observation")
     parser.add_argument("dms", metavar="DM", nargs="*", type=measure, help="dispersion measures in pc/cm^3")
     parser.add_argument("--delay", metavar="D", nargs="+", type=int, default=[],
                         help="delays across the band in spectra, as psr_search prints them")
@@ -54,7 +54,7 @@ def parsed(words: Sequence[str]) -> argparse.Namespace:
                         help="files are NAME_DM12.345.dat, .inf, and .tim; those that are there are written over")
     parser.add_argument("--fold", metavar="SECONDS", type=period, help="a picture of the fold at this period as well")
     parser.add_argument("--next", metavar="FILE", nargs="+", default=[], help="the observation's files behind FILE")
-    parser.add_argument("--mask", metavar="MASK", default="none", help="channels that are left out, as psr_mask names them")
+    parser.add_argument("--mask", metavar="MASK", default="none", help="channels to leave out, as psr_mask names them")
     asked = parser.parse_args(words)
     if not asked.dms and not asked.delay:
         raise Refusal(WORDS, "neither a DM nor --delay")
@@ -92,7 +92,8 @@ def series_name(name: str, head: Header, delay: int) -> str:
 
 
 def blocks(samples: Samples, delay: int) -> Iterator[tuple[int, int, Array]]:
-    """Spectra in pieces: the first one, how many paths of a delay begin in the piece, and these with what they reach."""
+    """Spectra in pieces: the first one, how many paths of a delay begin in the piece, and these with what they reach.
+    """
     count = samples.spectra - delay
     at_a_time = max(1, SAMPLES_AT_A_TIME // samples.header.channels, delay)
     for first in range(0, count, at_a_time):

@@ -54,7 +54,8 @@ def check_settings(text: str, head: Header, mean: float, deviation: float) -> No
         return
     for name, given, right in (("MEAN", mean, settings.mean), ("SD", deviation, settings.sd)):
         if abs(given - right) > NOISE_ERROR:
-            raise Refusal(TEXT, f"{name} is {given:g} here, and was {right:g} in the search of {text} ({text + SUFFIX})")
+            raise Refusal(TEXT, f"{name} is {given:g} here, and was {right:g} in the search of {text} "
+                                f"({text + SUFFIX})")
     if not np.array_equal(masked_channels(settings.mask, head.channels), np.sort(head.masked_in_file)):
         raise Refusal(TEXT, f"the mask differs from that of the search of {text}, --mask {settings.mask} "
                             f"({text + SUFFIX})")

@@ -71,7 +71,8 @@ def parsed(words: Sequence[str]) -> argparse.Namespace:
                         help="NAME.csv, NAME.npz or NAME.singlepulse, with --best also NAME.json or NAME.cand; "
                              "standard output as .csv without it")
     parser.add_argument("--folds", action="store_true", help="the FOLD lines in the .csv, in place of the PULSE lines")
-    parser.add_argument("--best", metavar="N", type=int, help="a view: the N strongest candidates, each of neighbouring lines")
+    parser.add_argument("--best", metavar="N", type=int,
+                        help="a view: the N strongest candidates, each of neighbouring lines")
     asked = parser.parse_args(words)
     if asked.best is not None and asked.best < 1:
         raise Refusal(WORDS, "argument --best: it is below 1")
@@ -90,6 +91,6 @@ def best_pulses(found: Found, asked: argparse.Namespace, head: Header) -> Array:
 
 
 def best_folds(table: Array, count: int) -> Array:
-    """The strongest line of each of the strongest groups of folds; its last column says how many lines the group has."""
+    """The strongest line of each of the strongest groups of folds; the last column is how many lines a group has."""
     best, sizes = strongest(table, table["snr"], count)
     return with_columns(table[best], {"lines": sizes})

@@ -32,7 +32,7 @@ PARTS = 16
 
 @dataclass(frozen=True)
 class Burst:
-    """A burst: when its middle passes the top of the band, in seconds, its width in seconds, and the S/N it can have."""
+    """A burst: when its middle passes the top of the band, and its width, in seconds, and the S/N that it can have."""
 
     time: float
     dm: float
@@ -90,7 +90,8 @@ def make_sky(path: Path, band: Band, spectra: int, bursts: Sequence[Burst] = (),
     every = list(bursts)
     if pulsar is not None:
         period, one = pulsar
-        every += [Burst(time, one.dm, one.width, one.snr) for time in np.arange(one.time, spectra * band.seconds, period)]
+        times = np.arange(one.time, spectra * band.seconds, period)
+        every += [Burst(time, one.dm, one.width, one.snr) for time in times]
     for burst in every:
         shape, first = shape_of(band, burst)
         shape *= burst.snr * DEVIATION / np.sqrt((shape**2).sum())

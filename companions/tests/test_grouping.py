@@ -18,7 +18,8 @@ from sky import DEVIATION, MEAN, Band, Burst, average_sky, make_sky, search
 BAND = Band()
 BURSTS = (
     Burst(0.30, 80, 0.0005, 12), Burst(0.62, 150, 0.002, 11), Burst(0.95, 40, 0.004, 15), Burst(1.30, 200, 0.001, 40),
-    Burst(1.60, 120, 0.0003, 12), Burst(2.00, 30, 0.001, 25), Burst(2.40, 220, 0.006, 20), Burst(2.75, 60, 0.0015, 10.5),
+    Burst(1.60, 120, 0.0003, 12), Burst(2.00, 30, 0.001, 25), Burst(2.40, 220, 0.006, 20),
+    Burst(2.75, 60, 0.0015, 10.5),
 )
 # bursts of interference in the whole band, which the delays of the last bursts cross
 IMPULSES = tuple((int(when / BAND.seconds), 4, 2.0, 0, 64) for when in (0.40, 0.75, 1.01, 1.35, 1.70, 2.02, 2.50, 2.77))

@@ -14,7 +14,7 @@ import pytest
 
 import made
 from conftest import HERE
-from malletbean import hunt_pieces, hunt_text
+from malletbean import hunt, hunt_pieces, hunt_text
 from malletbean.cluster import scripts
 from malletbean.hunt import FAILED, psr_hunt
 from malletbean.manifest import SearchPass, read_manifest
@@ -40,10 +40,12 @@ def observation(tmp_path_factory: pytest.TempPathFactory) -> str:
 
 
 @pytest.fixture(autouse=True)
-def programs(tmp_path: Path, monkeypatch: pytest.MonkeyPatch) -> None:
-    """psr_level on the PATH, and three pieces of each pass."""
+def programs(request: pytest.FixtureRequest, monkeypatch: pytest.MonkeyPatch) -> None:
+    """psr_level on the PATH, three pieces of each pass, and but for one test no report, which takes its time."""
     monkeypatch.setenv("PATH", f"{os.environ['PATH']}:{HERE.parent}")
     monkeypatch.setattr(hunt_pieces, "piece_count", lambda *_: 3)
+    if "report" not in request.node.name:
+        monkeypatch.setattr(hunt, "write_report", lambda *_, **__: None)
 
 
 def hunted(monkeypatch: pytest.MonkeyPatch, *words: str) -> int:
@@ -83,10 +85,10 @@ def test_a_hunt(observation: str, tmp_path: Path, monkeypatch: pytest.MonkeyPatc
     assert len(said.splitlines()) <= 10 and said.startswith("searched ")
     strongest = re.search(r"strongest +S/N ([0-9.]+) at DM ([0-9.]+)", said)
     assert strongest and float(strongest[1]) > 12 and abs(float(strongest[2]) - DM) < 0.2
-    hunt = read_manifest(str(folder))
-    for search in hunt.searches:
+    done = read_manifest(str(folder))
+    for search in done.searches:
         # one search of the whole level, over the bounds of three pieces
-        level = hunt.level(search)
+        level = done.level(search)
         assert level.mean is not None and abs(level.mean - 14) < 0.1
         parts = (folder / "searches" / search.name / "parts").read_text().split()
         assert len(parts) == 3
@@ -107,11 +109,11 @@ def test_a_hunt(observation: str, tmp_path: Path, monkeypatch: pytest.MonkeyPatc
 
 
 @needs_search
-def test_what_is_of_no_more_use_goes(observation: str, tmp_path: Path, monkeypatch: pytest.MonkeyPatch) -> None:
+def test_a_report_is_written_and_what_is_of_no_more_use_goes(observation: str, tmp_path: Path, monkeypatch: pytest.MonkeyPatch) -> None:
     assert hunted(monkeypatch, observation, "--dm", "0", "20", "-o", str(tmp_path / "hunt")) == 0
     left = [path for path in (tmp_path / "hunt").rglob("*") if path.suffix in (".dada", ".error", ".out")]
     assert left == [] and not list((tmp_path / "hunt").glob("searches/*/*.text"))
-    assert (tmp_path / "hunt" / "candidates.csv").exists()
+    assert all((tmp_path / "hunt" / name).exists() for name in ("candidates.csv", "report.html"))
 
 
 @needs_search

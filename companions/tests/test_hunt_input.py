@@ -13,6 +13,7 @@ import test_dada
 import test_fil
 import test_fits
 from conftest import HERE
+from malletbean import hunt
 from malletbean.hunt import psr_hunt
 from malletbean.hunt_input import converter_of, masked_megahertz
 from malletbean.headers import header
@@ -45,6 +46,7 @@ def forms(tmp_path_factory: pytest.TempPathFactory) -> dict[str, list[str]]:
 def hunted(monkeypatch: pytest.MonkeyPatch, *words: str) -> int:
     """The status of psr_hunt."""
     monkeypatch.setenv("PATH", f"{os.environ['PATH']}:{HERE.parent}")
+    monkeypatch.setattr(hunt, "write_report", lambda *_, **__: None)
     monkeypatch.setattr(sys, "argv", ["psr_hunt", *words])
     return run("psr_hunt", psr_hunt)
 

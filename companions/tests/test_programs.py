@@ -8,6 +8,7 @@ from pathlib import Path
 import pytest
 
 from conftest import DATA, HERE
+from malletbean.cut import psr_cut
 from malletbean.dada import psr_dada
 from malletbean.fil import psr_fil
 from malletbean.fits import psr_fits
@@ -15,9 +16,11 @@ from malletbean.level import psr_level
 from malletbean.look import psr_look
 from malletbean.plot import psr_plot
 from malletbean.program import run
+from malletbean.series import psr_series
 from malletbean.table import psr_table
 
-PROGRAMS = {one.__name__: one for one in (psr_dada, psr_fil, psr_fits, psr_level, psr_look, psr_plot, psr_table)}
+PROGRAMS = {one.__name__: one for one in (
+    psr_cut, psr_dada, psr_fil, psr_fits, psr_level, psr_look, psr_plot, psr_series, psr_table)}
 MADE, TWO = str(DATA / "made.txt"), str(DATA / "two.txt")
 
 
@@ -52,6 +55,11 @@ def test_the_commands(program: str) -> None:
     ("psr_level", ["FILE", "--average", "65"], 2, "argument --average: it is not from 1 to 64"),
     ("psr_level", ["FILE", "--mask", "32"], 12, "mask refused: there are 32 channels, and it names 32"),
     ("psr_level", ["/nowhere/a.dada"], 6, "can't read /nowhere/a.dada"),
+    ("psr_series", ["FILE", "1"], 2, "the following arguments are required: -o"),
+    ("psr_series", ["FILE", "1", "-o", "/nowhere/a"], 10, "can't write /nowhere/a_DM0.975.dat: No such"),
+    ("psr_cut", ["FILE", MADE], 10, f"can't write {MADE}: it is there already"),
+    ("psr_cut", ["FILE", "/nowhere/a.fil"], 10, "can't write /nowhere/a.fil: No such"),
+    ("psr_table", ["FILE", "16", "2.828", MADE, "-o", MADE], 2, "ends in none of"),
     ("psr_table", ["FILE", "1e3", "1", MADE], 2, "1e3 is no number"),
     ("psr_table", ["FILE", "16", "0", MADE], 2, "argument SD: it is 0"),
     ("psr_table", ["FILE", "16", "2.828", "/nowhere/text"], 6, "can't read /nowhere/text"),

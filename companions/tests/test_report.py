@@ -16,7 +16,8 @@ from malletbean import header
 from malletbean.arrays import Array
 from malletbean.candidates import cells_by_delay
 from malletbean.listing import searches_of, write_candidates
-from malletbean.manifest import Command, Hunt, LevelFile, Observation, Program, SearchPass, read_manifest, write_manifest
+from malletbean.manifest import (Command, Hunt, LevelFile, Observation, Program, SearchPass, read_manifest,
+                                 write_manifest)
 from malletbean.pictures import near
 from malletbean.report import write_report
 from malletbean.samples import Samples, fold_profile, path_sums_of
@@ -49,13 +50,14 @@ def folder(tmp_path_factory: pytest.TempPathFactory) -> str:
         searches.append(SearchPass(name, times, False, f"{name}.dada", f"{name}.text", 1, 0, delay, 0, 200, MEAN,
                                    DEVIATION, 6.5, 12288 // times))
     (place / "folds.text").write_text(fold_text(str(place / "k1.dada")))
-    searches.append(SearchPass("folds", 1, False, "k1.dada", "folds.text", 1, 280, 280, 77, 78, MEAN, DEVIATION, 6.5, 12288,
-                               PERIOD, PERIOD, 4, 1))
+    searches.append(SearchPass("folds", 1, False, "k1.dada", "folds.text", 1, 280, 280, 77, 78, MEAN, DEVIATION, 6.5,
+                               12288, PERIOD, PERIOD, 4, 1))
     sky = Observation((str(place / "k1.dada"),), "J0000+0000", "Effelsberg", 1400, -300, 64, 1, 8, 256e-6,
                       "2024-01-02-03:04:05", 60311.1278, 12288)
     write_manifest(str(place), Hunt(
         1, ("sky.dada", "--dm", "0", "200"), ("sky <&>.dada",), sky, "3", False, None, 6.5, 0, 200, tuple(levels),
-        tuple(searches), plan="level  averaged\nk1     1", programs=(Program("psr_search", "/bin/psr_search", "ab" * 32),),
+        tuple(searches), plan="level  averaged\nk1     1",
+        programs=(Program("psr_search", "/bin/psr_search", "ab" * 32),),
         commands=(Command("k1", "psr_search --mean 64 <k1.dada >k1.text", 1.25, 0),)))
     return str(place)
 
@@ -93,8 +95,8 @@ def test_files_of_candidates(folder: str, table: Array) -> None:
     place = Path(folder)
     with open(place / "candidates.csv", encoding="ascii", newline="") as file:
         rows = list(csv.DictReader(file))
-    assert list(rows[0])[:13] == ["snr", "dm", "dm_error", "time_top", "time_foot", "mjd_infinite", "utc_top", "width_ms",
-                                  "width", "delay", "averaged", "lines", "flag"]
+    assert list(rows[0])[:13] == ["snr", "dm", "dm_error", "time_top", "time_foot", "mjd_infinite", "utc_top",
+                                  "width_ms", "width", "delay", "averaged", "lines", "flag"]
     assert len(rows) == len(table) and [float(row["snr"]) for row in rows] == pytest.approx(table["snr"], abs=0.001)
     for burst in BURSTS:
         near_it = [row for row in rows if abs(float(row["time_top"]) - burst.time) < 0.01
@@ -160,8 +162,9 @@ def test_the_report_asks_nothing_of_a_network(report: str) -> None:
 
 
 def test_what_the_report_says(report: str, table: Array) -> None:
-    for text in ("J0000+0000", "sky &lt;&amp;&gt;.dada", "psr_hunt sky.dada --dm 0 200", "psr_search --mean 64 &lt;k1.dada",
-                 "ab" * 32, "1.25", "level  averaged", "Mask</th><td>3", f"{PERIOD * BAND.seconds * 1000:.6f} ms"):
+    for text in ("J0000+0000", "sky &lt;&amp;&gt;.dada", "psr_hunt sky.dada --dm 0 200",
+                 "psr_search --mean 64 &lt;k1.dada", "ab" * 32, "1.25", "level  averaged", "Mask</th><td>3",
+                 f"{PERIOD * BAND.seconds * 1000:.6f} ms"):
         assert text in report, text
     assert report.count("<tr data-snr") == len(table)
     assert all(f'id="candidate-{number}"' in report for number in (1, 2, 3))
@@ -208,7 +211,9 @@ set("no-flags", false); set("some-text", "k4"); seen.text = shown(9);
 seen.count = document.getElementById("shown").textContent;
 seen.pictures = Array.from(document.images).map(image => image.complete && image.naturalWidth > 300);
 seen.faults = window.faults;
-const out = document.createElement("pre"); out.id = "seen"; out.textContent = JSON.stringify(seen); document.body.append(out);
+const out = document.createElement("pre");
+out.id = "seen"; out.textContent = JSON.stringify(seen);
+document.body.append(out);
 </script>
 """
 
