@@ -7,14 +7,14 @@ import numpy as np
 
 from .arrays import Array
 from .bad_channels import stand_out
-from .level import LEVELS
+from .level import LEVELS, REACH
 from .masks import mask_text
 from .noise import Piece, estimate
 
 MEAN, DEVIATION, MOST = LEVELS[8].mean // 1000, LEVELS[8].deviation // 1000, LEVELS[8].most
-# what has to fit between 0 and the greatest value: so many deviations below and above the median of each piece
+# what has to fit between 0 and the greatest value: so many deviations below and above the mean of each piece
 BELOW, ABOVE = 6, 12
-# pieces whose median lies beyond those of this part of all on either side need not fit
+# pieces whose values lie beyond those of this part of all on either side need not fit
 ODD_PIECES = 0.05
 # in so many parts a stretch is looked at
 PARTS = 16
@@ -76,55 +76,58 @@ class Scaler:
                 "their channel"]
 
     def _fit(self, pieces: Sequence[Array]) -> None:
-        """Gain and offset of each channel and polarisation, by the medians and deviations of pieces of values."""
-        medians, deviations = (np.array(several) for several in zip(*map(noise_of, pieces)))
+        """Gain and offset of each channel and polarisation, by the means and deviations of pieces of values."""
+        means, deviations = (np.array(several) for several in zip(*map(noise_of, pieces)))
         if not self._has_mask:
-            self.mask, self._has_mask = mask_by(pieces, medians, deviations), True
+            self.mask, self._has_mask = mask_by(pieces, means, deviations), True
         # what never changes in a piece tells nothing there
         changes = deviations > 0
         has_any = changes.any(axis=0)
-        medians[~changes], deviations[~changes] = np.nan, np.nan
-        medians[:, ~has_any], deviations[:, ~has_any] = 0, 1
-        middle, deviation = np.nanmedian(medians, axis=0), np.nanmedian(deviations, axis=0)
-        low = np.nanquantile(medians - BELOW * deviations, ODD_PIECES, axis=0)
-        high = np.nanquantile(medians + ABOVE * deviations, 1 - ODD_PIECES, axis=0)
+        means[~changes], deviations[~changes] = np.nan, np.nan
+        means[:, ~has_any], deviations[:, ~has_any] = 0, 1
+        middle, deviation = np.nanmedian(means, axis=0), np.nanmedian(deviations, axis=0)
+        low = np.nanquantile(means - BELOW * deviations, ODD_PIECES, axis=0)
+        high = np.nanquantile(means + ABOVE * deviations, 1 - ODD_PIECES, axis=0)
         gains = np.minimum(DEVIATION / deviation, np.maximum(MOST / (high - low), LEAST_DEVIATION / deviation))
         offsets = np.minimum(np.maximum(MEAN - gains * middle, -gains * low), MOST - gains * high)
         self._gains = np.where(has_any, gains, self._gains)
         self._offsets = np.where(has_any, offsets, self._offsets)
 
 
-def mask_by(pieces: Sequence[Array], medians: Array, deviations: Array) -> str:
-    """The mask of the channels that stand out in any polarisation of pieces with these medians and deviations."""
+def mask_by(pieces: Sequence[Array], means: Array, deviations: Array) -> str:
+    """The mask of the channels that stand out in any polarisation of pieces with these means and deviations."""
     sums = []
-    for values, median, deviation in zip(pieces, medians, deviations):
+    # the usual deviation becomes that of values that are written, beside which rounding is small
+    unit = float(np.median(deviations)) / DEVIATION or 1.0
+    for values, mean, deviation in zip(pieces, means, deviations):
         # a few values that lie far off say nothing of a channel
-        known = np.where(np.isfinite(values), values, median).astype(np.float64)
-        near = np.clip(known, median - ABOVE * deviation, median + ABOVE * deviation)
+        known = np.where(np.isfinite(values), values, mean).astype(np.float64)
+        near = np.clip(known, mean - ABOVE * deviation, mean + ABOVE * deviation) / unit
         sums.append(Piece(len(values), near.sum(axis=0), (near**2).sum(axis=0)))
-    standing_out = np.zeros(medians.shape[1], bool)
-    for polarisation in range(medians.shape[2]):
+    standing_out = np.zeros(means.shape[1], bool)
+    for polarisation in range(means.shape[2]):
         mine = [Piece(one.spectra, one.sums[:, polarisation], one.squares[:, polarisation]) for one in sums]
         standing_out |= stand_out(estimate(mine, sum(one.spectra for one in mine)))
     return mask_text(np.flatnonzero(standing_out))
 
 
 def noise_of(values: Array) -> tuple[Array, Array]:
-    """The median and the deviation of each channel and polarisation, whatever a few of its values are.
+    """The mean and the deviation of each channel and polarisation, whatever a few of its values are.
 
-    Both are 0 where no value is a number.
+    They are those of the values near the median, since quantiles of values of a few steps are coarse. Both are 0 if no
+    value is a number.
     """
     is_known = np.isfinite(values)
     # those that are no numbers come last
     ordered = np.sort(np.where(is_known, values, np.inf), axis=0).astype(np.float64)
     counts = is_known.sum(axis=0)
     below, median, above = (at_part(ordered, counts, part) for part in (1 - BELOW_DEVIATION, 0.5, BELOW_DEVIATION))
-    deviation = (above - below) / 2
-    # most of the values are the same
-    is_coarse = (deviation == 0) & (counts > 0)
-    known = np.where(is_known[:, is_coarse], values[:, is_coarse], median[is_coarse]).astype(np.float64)
-    deviation[is_coarse] = known.std(axis=0)
-    return np.where(counts > 0, median, 0), np.where(counts > 0, deviation, 0)
+    reach = np.where(above > below, REACH * (above - below) / 2, np.inf)
+    known = np.where(is_known, values, median).astype(np.float64)
+    near = is_known & (np.abs(known - median) <= reach)
+    counts = np.maximum(near.sum(axis=0), 1)
+    means = np.where(near, known, 0).sum(axis=0) / counts
+    return means, np.sqrt((np.where(near, known - means, 0)**2).sum(axis=0) / counts)
 
 
 def at_part(ordered: Array, counts: Array, part: float) -> Array:
