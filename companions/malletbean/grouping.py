@@ -28,14 +28,14 @@ LEVEL_BITS, TIME_BITS, DELAY_BITS = 6, 36, 21
 DIP, DIP_PART = 2.0, 0.15
 # what noise adds to the S/N of the strongest of many boxes, and how far a pulse is from the one that is reckoned with
 NOISE_ADDS, SHAPE_ADDS = 3.0, 1.25
-# within so many widths two peaks are one
+# within so many widths, of the narrower one, two peaks are one
 NEAR = 3.0
 # deviations of a delay, in widths, times S/N: where half the square of the S/N of a pulse falls by 1/2
 DELAY_ERROR = 1.47
 # zeta of Cordes and McLaughlin (2003) for a delay that is off by one width
 ZETA = 0.8325
-# so many candidates within a second are a crowd
-CROWD = 100
+# so many candidates within a second, each of such a part of the S/N at least, are a crowd
+CROWD, CROWD_PART = 100, 0.7
 # what a person would see at once: strongest at DM 0; strongest at the end of the delays that were searched; a curve of
 # S/N against DM that no dispersed pulse of this width has; the same second as a hundred others
 FLAGS = ("dm0", "edge", "curve", "crowd")
@@ -304,11 +304,11 @@ def explained(peaks: Lines, energy: Array, density: float) -> Array:
         else:
             some = left.at(slice(begin, stop))
             off = np.abs(some.delay - peaks.delay[peak])
-            wider = np.maximum(some.width, width)
+            wider, narrower = np.maximum(some.width, width), np.minimum(some.width, width)
             # they pass each other by no more than the wider one is wide
             does_cross = np.abs(some.middle - middle) <= off / 2 + (some.width + width) / 2 + wider
             most = SHAPE_ADDS * most_at(energy[peak], width, some.width, off, density) + NOISE_ADDS
-            is_mine = does_cross & ((off <= NEAR * wider) | (some.snr <= most)) & is_left[begin:stop]
+            is_mine = does_cross & ((off <= NEAR * narrower) | (some.snr <= most)) & is_left[begin:stop]
             owner[places[begin:stop][is_mine]] = peak
             is_left[begin:stop][is_mine] = False
             taken += int(is_mine.sum())
@@ -402,15 +402,20 @@ def flags_of(searches: Sequence[Searched], groups: Groups, table: Array) -> Arra
         "dm0": table["dm"] <= np.maximum(2 * table["dm_error"], table["dm"] * step / np.maximum(delay, step)),
         "edge": (delay > longest - step) | (shortest > 0) & (delay < shortest + step),
         "curve": ~fits_curve(searches, groups),
-        "crowd": others_in_second(lines.middle[best]) >= CROWD,
+        "crowd": others_in_second(lines.middle[best], table["snr"]) >= CROWD,
     }
     return np.array([" ".join(name for name in FLAGS if is_flagged[name][row]) for row in range(len(best))], "U32")
 
 
-def others_in_second(times: Array) -> Array:
-    """For each time how many others lie no farther than half a second off it."""
-    ordered = np.sort(times)
-    return np.searchsorted(ordered, times + 0.5, "right") - np.searchsorted(ordered, times - 0.5) - 1
+def others_in_second(times: Array, ratios: Array) -> Array:
+    """For each candidate how many others that are not much weaker lie no farther than half a second off it."""
+    order = np.argsort(times, kind="stable")
+    ordered, strengths = times[order], ratios[order]
+    begins, stops = np.searchsorted(ordered, times - 0.5), np.searchsorted(ordered, times + 0.5, "right")
+    counts: Array = stops - begins - 1
+    for one in np.flatnonzero(counts >= CROWD).tolist():
+        counts[one] = np.count_nonzero(strengths[begins[one]:stops[one]] >= CROWD_PART * ratios[one]) - 1
+    return counts
 
 
 def fits_curve(searches: Sequence[Searched], groups: Groups) -> Array:

@@ -8,6 +8,7 @@ import math
 import os
 import re
 import shlex
+import shutil
 import subprocess
 import sys
 import time
@@ -61,8 +62,10 @@ def psr_hunt(words: Sequence[str]) -> None:
             print(hunt.plan)
             return
         check_room(asked, hunt, head, converter is not None)
+    check_engine(asked)
+    programs = programs_of(converter)
     with hunt_folder(asked.folder) as folder:
-        hunt = begun_hunt(asked, folder, paths, converter)
+        hunt = begun_hunt(asked, folder, paths, converter, programs)
         if os.path.exists(os.path.join(folder, "summary")):
             sys.stdout.write(bytes_of(os.path.join(folder, "summary")).decode())
             return
@@ -217,7 +220,8 @@ def hunt_folder(path: str) -> Iterator[str]:
         os.close(place)
 
 
-def begun_hunt(asked: argparse.Namespace, folder: str, paths: Sequence[str], converter: str | None) -> Hunt:
+def begun_hunt(asked: argparse.Namespace, folder: str, paths: Sequence[str], converter: str | None,
+               programs: tuple[Program, ...]) -> Hunt:
     """The hunt of a folder: the one that an earlier call began, or a new one."""
     if os.path.exists(os.path.join(folder, NAME)):
         hunt = read_manifest(folder)
@@ -231,7 +235,7 @@ def begun_hunt(asked: argparse.Namespace, folder: str, paths: Sequence[str], con
         own = [CONVERTED]
         converted(conversion(converter, paths, os.path.join(folder, CONVERTED)))
     look = looked_at(Samples([os.path.join(folder, path) for path in own]), mask_of(asked))
-    hunt = replace(hunt_of(asked, paths, own, look), programs=programs_of(converter))
+    hunt = replace(hunt_of(asked, paths, own, look), programs=programs)
     write_manifest(folder, hunt)
     return hunt
 
@@ -336,6 +340,14 @@ def run_hunt(asked: argparse.Namespace, folder: str, hunt: Hunt, begun: float) -
     if failures:
         raise failed(running, failures)
     finish(asked, running, time.monotonic() - begun)
+
+
+def check_engine(asked: argparse.Namespace) -> None:
+    """Refuses an engine that is not there."""
+    for is_asked, word, name in ((asked.slurm, "--slurm", "sbatch"), (asked.parallel is not None, "--parallel",
+                                                                      "parallel")):
+        if is_asked and shutil.which(name) is None:
+            raise Refusal(WORDS, f"argument {word}: {name} is not on the PATH")
 
 
 def engine_of(asked: argparse.Namespace, folder: str) -> Engine:

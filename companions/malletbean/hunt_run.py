@@ -105,8 +105,9 @@ class Cores:
                     else:
                         failures.append(Failure(task, f"status {process.returncode}: {task.fault}"))
                 now = time.monotonic()
-                progress.show("searches" if not first else "levels",
-                              [(task, now - begun) for task, begun in self.running.values()])
+                running = [(task, now - begun) for task, begun in self.running.values()]
+                progress.show("levels" if any(task.name.startswith("levels/") for task, _ in running) else "searches",
+                              running)
                 time.sleep(NAP)
         finally:
             stop(list(self.running))

@@ -35,13 +35,13 @@ def searches(tmp_path_factory: pytest.TempPathFactory) -> list[Searched]:
     return [searched(folder, path, times) for times in AVERAGED]
 
 
-def searched(folder: Path, path: Path, times: int, max_dm: float = 240) -> Searched:
-    """A search of a sky in which so many spectra are averaged into one."""
+def searched(folder: Path, path: Path, times: int, max_dm: float = 240, widths: int = 1) -> Searched:
+    """A search of a sky in which so many spectra are averaged into one, in boxes of up to some widths."""
     one = folder / f"{times}.dada"
     band = BAND if times == 1 else average_sky(path, one, BAND, times)
     max_delay = int(band.delay(max_dm) / band.seconds) + 1
     text = folder / f"{times}.text"
-    text.write_text(search(str(one), 6.3, 1, max_delay))
+    text.write_text(search(str(one), 6.3, widths, max_delay))
     return Searched(read(str(text))[0].pulses, header(str(one)), MEAN, DEVIATION, times, name=f"k{times}", min_delay=0,
                     max_delay=max_delay)
 
@@ -95,6 +95,16 @@ def test_what_a_candidate_says(searches: list[Searched]) -> None:
         assert row["search"] == f"k{row['averaged']}"
 
 
+def test_a_narrow_burst_beside_a_wide_one_is_not_hidden(tmp_path: Path) -> None:
+    """Also if a box of the wide one would cover it in time and in delay."""
+    path = tmp_path / "1.dada"
+    wide, narrow = Burst(0.5, 60, 0.016, 40), Burst(0.475, 110, 0.0005, 18)
+    make_sky(path, BAND, 4096, (wide, narrow))
+    table = candidate_table([searched(tmp_path, path, times, 120, times // 4 or 1) for times in (1, 16)])
+    assert len(found(table, narrow)) == len(found(table, wide)) == 1
+    assert table["width_ms"][0] > 10
+
+
 def test_one_search_alone(searches: list[Searched]) -> None:
     for one in searches[:2]:
         table = candidate_table([one])
@@ -127,9 +137,14 @@ def test_a_crowd(searches: list[Searched]) -> None:
     lines["end"][121] = 14_000_000
     lines["cells"] = BAND.channels + 30
     lines["sum"] = lines["cells"] * MEAN + 9 * DEVIATION * np.sqrt(lines["cells"])
-    table = candidate_table([replace(searches[0], pulses=lines)])
-    assert len(table) == 122
-    assert [("crowd" in flag) for flag in table["flag"][np.argsort(table["time_top"])]] == [True] * 121 + [False]
+    # a burst that is much stronger than the others is none of the crowd
+    strong = lines["cells"][60] * MEAN + 20 * DEVIATION * np.sqrt(lines["cells"][60])
+    for total, is_one in ((lines["sum"][60], True), (strong, False)):
+        lines["sum"][60] = total
+        table = candidate_table([replace(searches[0], pulses=lines)])
+        assert len(table) == 122
+        flagged = [("crowd" in flag) for flag in table["flag"][np.argsort(table["time_top"])]]
+        assert flagged == [True] * 60 + [is_one] + [True] * 60 + [False]
 
 
 def test_nothing_to_group(searches: list[Searched]) -> None:

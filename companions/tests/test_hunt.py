@@ -138,6 +138,20 @@ def test_a_job_that_fails(observation: str, tmp_path: Path, monkeypatch: pytest.
 
 
 @needs_search
+def test_a_full_disk(observation: str, tmp_path: Path, monkeypatch: pytest.MonkeyPatch,
+                     capsys: pytest.CaptureFixture[str]) -> None:
+    folder = tmp_path / "hunt"
+    words = [observation, "--dm", "0", "20", "-o", str(folder)]
+    # a file may not become as large as the level of all spectra
+    script = f"ulimit -f 200; exec {sys.executable} {HERE.parent}/psr_hunt {' '.join(words)}"
+    answer = subprocess.run(["bash", "-c", script], capture_output=True, text=True)
+    assert answer.returncode == FAILED
+    assert "levels/k1.dada failed: status 10: " in answer.stderr and answer.stderr.count("\n") == 1
+    assert (folder / "levels" / "k16.dada").exists()
+    assert hunted(monkeypatch, *words) == 0
+
+
+@needs_search
 def test_too_many_lines(observation: str, tmp_path: Path, monkeypatch: pytest.MonkeyPatch,
                         capsys: pytest.CaptureFixture[str]) -> None:
     folder = tmp_path / "hunt"
@@ -263,6 +277,18 @@ def test_what_is_refused(observation: str, tmp_path: Path, monkeypatch: pytest.M
     assert hunted(monkeypatch, *given) == status
     answer = capsys.readouterr()
     assert line in answer.err and answer.err.count("\n") == 1 and answer.out == ""
+    assert list(tmp_path.iterdir()) == []
+
+
+def test_programs_that_are_not_there(observation: str, tmp_path: Path, monkeypatch: pytest.MonkeyPatch,
+                                     capsys: pytest.CaptureFixture[str]) -> None:
+    words = [observation, "--dm", "0", "9", "-o", str(tmp_path / "hunt")]
+    monkeypatch.setenv("PATH", "/nowhere")
+    for more, line in (([], "psr_level is not there: put it on the PATH, or set PSR_LEVEL"),
+                       (["--slurm"], "argument --slurm: sbatch is not on the PATH"),
+                       (["--parallel", "-j 2"], "argument --parallel: parallel is not on the PATH")):
+        assert hunted(monkeypatch, *words, *more) == 2
+        assert line in capsys.readouterr().err
     assert list(tmp_path.iterdir()) == []
 
 
