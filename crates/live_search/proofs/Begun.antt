@@ -27,17 +27,17 @@ begins_for s place =
     let first : ℕ = first_needed s place - first_needed s place % 512 in
     elim (cases_lt 0 first) [
       | inl more ↦ record {
-          even = record { steps = first_needed s place / 512; count = steps_in (first_needed s place) };
-          needed = first + reach;
-          early = omega (arith, more);
-          is = omega arith;
-        }
+        even = record { steps = first_needed s place / 512; count = steps_in (first_needed s place) };
+        needed = first + reach;
+        early = omega (arith, more);
+        is = omega arith;
+      }
       | inr none ↦ record {
-          even = record { steps = first_needed s place / 512; count = steps_in (first_needed s place) };
-          needed = 0;
-          early = omega arith;
-          is = omega (arith, none);
-        }
+        even = record { steps = first_needed s place / 512; count = steps_in (first_needed s place) };
+        needed = 0;
+        early = omega arith;
+        is = omega (arith, none);
+      }
     ]
 
 -- an engine that was fed nothing holds nothing

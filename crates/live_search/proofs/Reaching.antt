@@ -63,6 +63,14 @@ tests_commute p q [] = refl
 tests_commute p q (x ∷ xs) =
     tests_at p q x xs (tests_commute p q xs) (p x) (q x) refl refl
 
+-- one shard has all of a part
+pub one_part : OneShardIsAll → (o : Observation) (s : Search) (place until : ℕ) (xs : List ℕ) →
+    shard_part (settings_of s) 0 (within_part place until (candidates_of o (settings_of s) xs))
+    ≡ within_part place until (candidates_of o s xs)
+one_part one o s place until xs =
+    tests_commute _ (ends_within place until) (candidates_of o (settings_of s) xs)
+    ∙ ap (within_part place until) (one (filterbank_of o xs) (edges o) (plain_cells o.channels) (settings_of s) refl)
+
 -- ---- an engine
 
 module _ (found : PartsAreFound) (one : OneShardIsAll) (o : Observation) (t : Task) (task : IsTask t) (place : ℕ)
@@ -118,14 +126,6 @@ module _ (found : PartsAreFound) (one : OneShardIsAll) (o : Observation) (t : Ta
       (fed_is full) early in
       omega (arith, to, less)
 
-  -- one shard has all
-  one_part : (p : ℕ) (xs : List ℕ) → shard_part (settings_of t.search) 0
-      (within_part place p (candidates_of o (settings_of t.search) xs))
-      ≡ within_part place p (candidates_of o t.search xs)
-  one_part p xs =
-      tests_commute _ (ends_within place p) (candidates_of o (settings_of t.search) xs)
-      ∙ ap (within_part place p) (one (filterbank_of o xs) (edges o) (plain_cells o.channels) (settings_of t.search) refl)
-
   pub book_is : searched_to e ≤ greatest_count → (more : List ℕ) → All (λ byte. byte < 256) more →
       t.from.place ≤ place →
       e.book ≡ book_of t.search.max_candidates
@@ -143,4 +143,4 @@ module _ (found : PartsAreFound) (one : OneShardIsAll) (o : Observation) (t : Ta
       (within_part place (searched_to e) (candidates_of o x (bytes ++ more))))) s.search
       ∙ ap (λ k. book_of t.search.max_candidates (shard_part (settings_of t.search) k
       (within_part place (searched_to e) (candidates_of o (settings_of t.search) (bytes ++ more))))) s.shard
-      ∙ ap (book_of t.search.max_candidates) (one_part (searched_to e) (bytes ++ more))
+      ∙ ap (book_of t.search.max_candidates) (one_part one o t.search place (searched_to e) (bytes ++ more))

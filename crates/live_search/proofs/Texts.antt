@@ -9,7 +9,7 @@ use Rattle.live_search.specs.LiveText.{Layout, after_parts, lines_at, marked_par
 use Rattle.live_search.proofs.Counts.{at_next, count_is, next_past}
 
 -- of n parts, with the CHECK line of the last one or without it
-pub state_text : Layout → Checkpoint → List Candidate → ℕ → Bool → List ℕ
+unfoldable pub state_text : Layout → Checkpoint → List Candidate → ℕ → Bool → List ℕ
 state_text l from list n false = marked_parts check_line l from list n
 state_text l from list zero true = []
 state_text l from list (suc n) true =

@@ -81,9 +81,9 @@ write_pulses-requires g c =
       searched = end_searched c.parts_are_found.ensures c.one_shard_is_all.ensures c.pieces_join.ensures.pieces o
           live.task live.bytes bytes w c.write_due.new.self c.feed.new.self c.whole_spectra-spectra.result
           c.room-count.result came c.room-count.ensures.most numbers (record {
-        count = c.whole_spectra-spectra.ensures.all o _ came.stands;
-        state = c.in-Ok.ensures.state;
-      }) c.candidates_are_listed.ensures _ c.book.ensures (omega (arith, to, late));
+            count = c.whole_spectra-spectra.ensures.all o _ came.stands;
+            state = c.in-Ok.ensures.state;
+          }) c.candidates_are_listed.ensures _ c.book.ensures (omega (arith, to, late));
     }
 
 pub returns-in-Ok-write_pulses-clause-fed : goal.returns-in-Ok-write_pulses-clause-fed
