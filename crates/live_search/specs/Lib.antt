@@ -1,3 +1,4 @@
 -- A search that writes its text while the data come.
 pub mod LiveText
 pub mod Live
+pub mod Worked

@@ -20,7 +20,7 @@ write_last-requires g c =
     } in
     record {
       searched = searched c.parts_are_found.ensures c.one_shard_is_all.ensures c.candidates_are_listed.ensures
-    c.pieces_join.ensures.pieces c.args.observation.now live.task live.bytes c.args.self.now c.end.new.self
+          c.pieces_join.ensures.pieces c.args.observation.now live.task live.bytes c.args.self.now c.end.new.self
           c.whole_spectra-spectra.result ended;
     }
 
@@ -30,17 +30,17 @@ returns-in-Ok g c = record {
       let o = c.args.observation.now in
       let ended : HasEnded o t bytes c.args.self.now c.end.new.self c.whole_spectra-spectra.result =
       record {
-      was = was;
-      same = c.end.ensures.same;
-      scope = c.end.ensures.scope;
-      found = c.end.ensures.found c.args.observation.now bytes was.fed;
-      count = c.whole_spectra-spectra.ensures.value;
-    } in
+        was = was;
+        same = c.end.ensures.same;
+        scope = c.end.ensures.scope;
+        found = c.end.ensures.found c.args.observation.now bytes was.fed;
+        count = c.whole_spectra-spectra.ensures.value;
+      } in
       let own = own_book c.parts_are_found.ensures c.one_shard_is_all.ensures c.candidates_are_listed.ensures
-    c.pieces_join.ensures.pieces c.args.observation.now t bytes c.args.self.now c.end.new.self
+      c.pieces_join.ensures.pieces c.args.observation.now t bytes c.args.self.now c.end.new.self
       c.whole_spectra-spectra.result ended in
       stop_ok c.parts_are_found.ensures c.one_shard_is_all.ensures c.candidates_are_listed.ensures
-    c.pieces_join.ensures.pieces c.args.observation.now t bytes c.args.self.now c.end.new.self
+      c.pieces_join.ensures.pieces c.args.observation.now t bytes c.args.self.now c.end.new.self
       c.whole_spectra-spectra.result ended c.in-Ok.pulses start _ _ _ c.write_check.result (c.came_no_further.ensures.further c.if-came_no_further.false) (c.in-Ok.ensures.count _ own)
       text (c.in-Ok.ensures.lines _ own).all c.write_check.ensures;
 }
@@ -51,17 +51,17 @@ returns-in-Err g c = record {
       let o = c.args.observation.now in
       let ended : HasEnded o t bytes c.args.self.now c.end.new.self c.whole_spectra-spectra.result =
       record {
-      was = was;
-      same = c.end.ensures.same;
-      scope = c.end.ensures.scope;
-      found = c.end.ensures.found c.args.observation.now bytes was.fed;
-      count = c.whole_spectra-spectra.ensures.value;
-    } in
+        was = was;
+        same = c.end.ensures.same;
+        scope = c.end.ensures.scope;
+        found = c.end.ensures.found c.args.observation.now bytes was.fed;
+        count = c.whole_spectra-spectra.ensures.value;
+      } in
       let own = own_book c.parts_are_found.ensures c.one_shard_is_all.ensures c.candidates_are_listed.ensures
-    c.pieces_join.ensures.pieces c.args.observation.now t bytes c.args.self.now c.end.new.self
+      c.pieces_join.ensures.pieces c.args.observation.now t bytes c.args.self.now c.end.new.self
       c.whole_spectra-spectra.result ended in
       stop_err c.parts_are_found.ensures c.one_shard_is_all.ensures c.candidates_are_listed.ensures
-    c.pieces_join.ensures.pieces c.args.observation.now t bytes c.args.self.now c.end.new.self
+      c.pieces_join.ensures.pieces c.args.observation.now t bytes c.args.self.now c.end.new.self
       c.whole_spectra-spectra.result ended c.in-Err.stop start _ _ (c.came_no_further.ensures.further c.if-came_no_further.false) text (c.in-Err.ensures.lines _ own).front;
 }
 
@@ -71,14 +71,14 @@ returns-then-came_no_further g c = record {
       let o = c.args.observation.now in
       let ended : HasEnded o t bytes c.args.self.now c.end.new.self c.whole_spectra-spectra.result =
       record {
-      was = was;
-      same = c.end.ensures.same;
-      scope = c.end.ensures.scope;
-      found = c.end.ensures.found c.args.observation.now bytes was.fed;
-      count = c.whole_spectra-spectra.ensures.value;
-    } in
+        was = was;
+        same = c.end.ensures.same;
+        scope = c.end.ensures.scope;
+        found = c.end.ensures.found c.args.observation.now bytes was.fed;
+        count = c.whole_spectra-spectra.ensures.value;
+      } in
       let none = c.came_no_further.ensures.nothing c.if-came_no_further.true in
       stop_none c.parts_are_found.ensures c.one_shard_is_all.ensures c.candidates_are_listed.ensures
-    c.pieces_join.ensures.pieces c.args.observation.now t bytes c.args.self.now c.end.new.self
+      c.pieces_join.ensures.pieces c.args.observation.now t bytes c.args.self.now c.end.new.self
       c.whole_spectra-spectra.result ended _ start _ none.0 none.1 text;
 }
