@@ -1,5 +1,5 @@
 -- A search that was opened.
-use Rattle.std.proofs.Common.{◌≡◌, ℕ, ◌+◌, ◌-◌, ◌*◌, ◌/◌, ◌%◌, ◌≤◌, ◌<◌, ◌⊎◌, inl, inr, true, false, List, [], length, min, refl, sym, ◌∙◌, ap, subst, arith}
+use Rattle.std.proofs.Common.{◌≡◌, ℕ, ◌+◌, ◌-◌, ◌*◌, ◌/◌, ◌%◌, ◌≤◌, inl, inr, true, false, [], sym, ◌∙◌, ap, subst, arith}
 use Rattle.std.proofs.Math.Nat.{mod-eq-sub-div-mul, mul-le-mul_left}
 use Rattle.std.proofs.lemmas.Bool.{cases_lt}
 use Rattle.dada_model.specs.Observation.{Observation}
@@ -14,7 +14,7 @@ use Rattle.live_search.specs.LiveText.{after_parts, next_end}
 use Rattle.live_search.specs.Live.{BeginsFor, IsOpenedFrom, IsTask, Task, WasFed, settings_of}
 use Rattle.live_search.specs.declared.live.LiveSearch.{LiveSearch}
 use Rattle.live_search.proofs.Counts.{next_past}
-use Rattle.live_search.proofs.Sizes.{bytes_before_end, no_spectra, spectra_grow, spectra_within}
+use Rattle.live_search.proofs.Sizes.{no_spectra}
 
 -- the steps that lie within so many spectra
 pub steps_in : (n : ℕ) → n - n % 512 ≡ n / 512 * 512

@@ -1,5 +1,5 @@
 -- The text of the last part behind the text so far.
-use Rattle.std.proofs.Common.{◌≡◌, ℕ, zero, suc, ◌+◌, ◌-◌, ◌*◌, ◌/◌, ◌≤◌, ◌<◌, ◌++◌, Bool, true, false, cond, List, [], refl, sym, ◌∙◌, ap, subst, append-nil, append_assoc, arith}
+use Rattle.std.proofs.Common.{◌≡◌, ℕ, zero, suc, ◌+◌, ◌-◌, ◌≤◌, ◌<◌, ◌++◌, Bool, true, false, cond, List, [], refl, sym, ◌∙◌, ap, subst, append-nil, append_assoc, arith}
 use Rattle.std.specs.Prelude.{nat_lt}
 use Rattle.std.proofs.lemmas.Bool.{lt-ltb}
 use Rattle.std.proofs.lemmas.Bool.Decides.{nat_tests}
@@ -7,7 +7,7 @@ use Rattle.search_model.specs.declared.candidate.Candidate.{Candidate}
 use Rattle.search_model.specs.Parts.{check_line, within_part}
 use Rattle.warm_restart.specs.declared.checkpoint.Checkpoint.{Checkpoint}
 use Rattle.live_search.specs.LiveText.{Layout, after_parts, counted, last_lines, lines_at, marked_parts, next_after, next_end, parts_before, printed, pulse_lines, stopped_text}
-use Rattle.live_search.proofs.Counts.{at_next, at_none, count_is, next_past}
+use Rattle.live_search.proofs.Counts.{at_next, count_is, next_past}
 use Rattle.live_search.proofs.Texts.{state_text}
 
 module _ (l : Layout) (some : 1 ≤ l.every) (from : Checkpoint) (list : List Candidate) where

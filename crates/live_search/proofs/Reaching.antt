@@ -1,20 +1,19 @@
 -- How far an engine has searched, and what its book has.
-use Rattle.std.proofs.Common.{◌≡◌, ℕ, zero, suc, ◌+◌, ◌-◌, ◌*◌, ◌/◌, ◌%◌, ◌^◌, ◌≤◌, ◌<◌, ◌++◌, Bool, true, false, List, [], ◌∷◌, length, min, max, refl, sym, ◌∙◌, ap, subst, arith}
-use Rattle.std.specs.Prelude.{All, Option, Some, filter}
+use Rattle.std.proofs.Common.{◌≡◌, ℕ, ◌+◌, ◌-◌, ◌*◌, ◌/◌, ◌%◌, ◌≤◌, ◌<◌, ◌++◌, Bool, true, false, List, [], ◌∷◌, length, refl, sym, ◌∙◌, ap, subst, arith}
+use Rattle.std.specs.Prelude.{All, Some, filter}
 use Rattle.dada_model.specs.Observation.{Observation, edges}
-use Rattle.search_model.specs.declared.candidate.Candidate.{Candidate}
 use Rattle.search_model.specs.declared.search.Search.{Search}
 use Rattle.search_model.specs.CandidateLaws.{OneShardIsAll}
 use Rattle.search_model.specs.Candidates.{plain_cells, shard_part}
 use Rattle.search_model.specs.Observed.{candidates_of, filterbank_of}
 use Rattle.search_model.specs.Parts.{ends_within, first_needed, within_part}
-use Rattle.candidate_book.specs.Book.{BookContents, book_of}
-use Rattle.search_engine.specs.Engine.{EngineState, HoldsNoFullChunk, StandsForPart, chunk_of, most_fed, scope_of, searched_to}
+use Rattle.candidate_book.specs.Book.{book_of}
+use Rattle.search_engine.specs.Engine.{EngineState, HoldsNoFullChunk, StandsForPart, chunk_of, searched_to}
 use Rattle.search_engine.specs.Laws.{PartsAreFound}
 use Rattle.search_engine.specs.Scope.{Scope, scope_of_part, spectrum_size}
 use Rattle.warm_restart.specs.Counts.{greatest_count}
 use Rattle.live_search.specs.LiveText.{next_end}
-use Rattle.live_search.specs.Live.{AreSteps, BeginsFor, IsTask, SearchesFrom, Task, settings_of}
+use Rattle.live_search.specs.Live.{AreSteps, IsTask, SearchesFrom, Task, settings_of}
 use Rattle.live_search.proofs.Sizes.{size_some, spectra_within}
 
 -- ---- numbers

@@ -1,7 +1,6 @@
 -- What contracts see of a search that writes while the data come.
 -- Source: this project's choice.
 use Rattle.std.specs.Prelude.{◌≡◌, ℕ, ◌+◌, ◌*◌, ◌<◌, ◌≤◌, ◌++◌, ◌&&◌, All, Bool, true, false, List, [], length, min, take, nat_lt, if◌then◌else◌}
-use Rattle.dada_model.specs.Bounds.{ObservationInRange}
 use Rattle.dada_model.specs.Observation.{Observation}
 use Rattle.psr_base.specs.Written.{SinkSeen, WroteAll, WroteFront}
 use Rattle.search_model.specs.declared.candidate.Candidate.{Candidate}
@@ -9,7 +8,7 @@ use Rattle.search_model.specs.declared.search.Search.{Search}
 use Rattle.search_model.specs.Observed.{candidates_of, filterbank_of, labels_of}
 use Rattle.search_model.specs.Parts.{check_line, first_needed}
 use Rattle.search_model.specs.Search.{SettingsInRange}
-use Rattle.search_engine.specs.Engine.{EngineState, HoldsNoFullChunk, IsOpenedEngine, SameShard, StandsForPart, scope_of, searched_to, spectra_fed}
+use Rattle.search_engine.specs.Engine.{EngineState, HoldsNoFullChunk, IsOpenedEngine, SameShard, StandsForPart, scope_of, searched_to}
 use Rattle.search_engine.specs.Scope.{scope_from, scope_of_part, spectrum_size}
 use Rattle.warm_restart.specs.Checkpoint.{CanBeSaid}
 use Rattle.warm_restart.specs.Counts.{greatest_count}

@@ -1,5 +1,5 @@
 // A search that writes while the data come.
-ghost use Rattle.std.specs.Prelude.{◌≡◌, ℕ, ◌+◌, ◌*◌, ◌^◌, ◌++◌, ◌≤◌, ◌<◌, [], All, List, OnOk, OnErr, IfOk, IfErr, not, ◌&&◌, true, false, None, length, take, drop};
+ghost use Rattle.std.specs.Prelude.{◌≡◌, ℕ, ◌+◌, ◌*◌, ◌^◌, ◌++◌, ◌≤◌, ◌<◌, [], All, List, OnOk, OnErr, IfOk, IfErr, not, ◌&&◌, true, false, None, length, take};
 ghost use Rattle.dada_model.specs.Observation.{Observation as Described};
 ghost use Rattle.psr_base.specs.Written.{SinkSeen, Wrote, WroteAll};
 ghost use Rattle.candidate_book.specs.Book.{book_of};
@@ -9,10 +9,9 @@ ghost use Rattle.search_model.specs.Parts.{check_line};
 ghost use Rattle.search_model.specs.Observed.{candidates_of, filterbank_of};
 ghost use Rattle.search_model.specs.Plan.{plan_refusal};
 ghost use Rattle.search_model.specs.Search.{SettingsInRange};
-ghost use Rattle.search_engine.specs.Engine.{most_fed, spectra_fed};
+ghost use Rattle.search_engine.specs.Engine.{most_fed};
 ghost use Rattle.search_engine.specs.Plan.{Explains};
 ghost use Rattle.search_engine.specs.Scope.{spectrum_size as spectrum_size_of};
-ghost use Rattle.warm_restart.specs.Checkpoint.{CanBeSaid};
 ghost use Rattle.live_search.specs.LiveText.{layout_of, live_text, stopped_text};
 ghost use Rattle.live_search.specs.Live.{BeginsFor, BrokeOff, HasBegun, IsLive, IsOpenedFrom, IsTask, Task, WasFed, WroteOn, due_line, fed_of, is_overdue, last_count, last_pulses, settings_of, so_far};
 

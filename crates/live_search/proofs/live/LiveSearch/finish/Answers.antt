@@ -1,5 +1,3 @@
-use Rattle.std.proofs.Common.{◌≡◌}
-use Rattle.live_search.specs.declared.live.LiveSearch.{LiveSearch}
 use Rattle.live_search.proofs.Ending.{HasEnded, finish_err, finish_ok, own_book, searched}
 use Rattle.live_search.proofs.live.LiveSearch.finish.Goals as goal
 

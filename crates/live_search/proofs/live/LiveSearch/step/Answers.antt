@@ -1,9 +1,6 @@
-use Rattle.std.proofs.Common.{◌≡◌, ◌++◌, List, ℕ, take, sym, ◌∙◌, ap, subst, arith}
-use Rattle.search_engine.specs.Engine.{EngineState}
-use Rattle.live_search.specs.Live.{IsLive, Task, WasFed}
+use Rattle.std.proofs.Common.{◌++◌, List, ℕ, take, arith}
 use Rattle.live_search.specs.declared.live.LiveSearch.{LiveSearch}
-use Rattle.live_search.proofs.Steps.{Came}
-use Rattle.live_search.proofs.Stepping.{Went, amid_stands, amid_writes, bytes_are, came_of, due_breaks, end_breaks, end_searched, end_stands, end_writes}
+use Rattle.live_search.proofs.Stepping.{amid_stands, amid_writes, bytes_are, came_of, due_breaks, end_breaks, end_searched, end_stands, end_writes}
 use Rattle.live_search.proofs.live.LiveSearch.step.Goals as goal
 
 pub returns-in-Err-clause-broke : goal.returns-in-Err-clause-broke
