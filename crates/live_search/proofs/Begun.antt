@@ -1,5 +1,5 @@
 -- A search that was opened.
-use Rattle.std.proofs.Common.{◌≡◌, ℕ, ◌+◌, ◌-◌, ◌*◌, ◌/◌, ◌%◌, ◌≤◌, ◌<◌, ◌⊎◌, inl, inr, true, false, List, [], length, min, refl, sym, ◌∙◌, ap, subst, arith}
+use Rattle.std.proofs.Common.{◌≡◌, ℕ, ◌+◌, ◌-◌, ◌*◌, ◌/◌, ◌%◌, ◌≤◌, inl, inr, true, false, [], sym, ◌∙◌, ap, subst, arith}
 use Rattle.std.proofs.Math.Nat.{mod-eq-sub-div-mul, mul-le-mul_left}
 use Rattle.std.proofs.lemmas.Bool.{cases_lt}
 use Rattle.dada_model.specs.Observation.{Observation}
@@ -14,7 +14,7 @@ use Rattle.live_search.specs.LiveText.{after_parts, next_end}
 use Rattle.live_search.specs.Live.{BeginsFor, IsOpenedFrom, IsTask, Task, WasFed, settings_of}
 use Rattle.live_search.specs.declared.live.LiveSearch.{LiveSearch}
 use Rattle.live_search.proofs.Counts.{next_past}
-use Rattle.live_search.proofs.Sizes.{bytes_before_end, no_spectra, spectra_grow, spectra_within}
+use Rattle.live_search.proofs.Sizes.{no_spectra}
 
 -- the steps that lie within so many spectra
 pub steps_in : (n : ℕ) → n - n % 512 ≡ n / 512 * 512
@@ -27,17 +27,17 @@ begins_for s place =
     let first : ℕ = first_needed s place - first_needed s place % 512 in
     elim (cases_lt 0 first) [
       | inl more ↦ record {
-          even = record { steps = first_needed s place / 512; count = steps_in (first_needed s place) };
-          needed = first + reach;
-          early = omega (arith, more);
-          is = omega arith;
-        }
+        even = record { steps = first_needed s place / 512; count = steps_in (first_needed s place) };
+        needed = first + reach;
+        early = omega (arith, more);
+        is = omega arith;
+      }
       | inr none ↦ record {
-          even = record { steps = first_needed s place / 512; count = steps_in (first_needed s place) };
-          needed = 0;
-          early = omega arith;
-          is = omega (arith, none);
-        }
+        even = record { steps = first_needed s place / 512; count = steps_in (first_needed s place) };
+        needed = 0;
+        early = omega arith;
+        is = omega (arith, none);
+      }
     ]
 
 -- an engine that was fed nothing holds nothing

@@ -5,7 +5,7 @@ use Rattle.std.proofs.lemmas.List.{take_all, take-append-drop}
 use Rattle.std.proofs.lemmas.List.Elements.{All-append, All-drop, All-take}
 use Rattle.std.proofs.Math.Seq.{take-add}
 use Rattle.dada_model.specs.Observation.{Observation}
-use Rattle.psr_base.specs.Written.{PiecesJoin, SinkSeen, WroteAll, WroteFront}
+use Rattle.psr_base.specs.Written.{SinkSeen, WroteAll, WroteFront}
 use Rattle.live_search.specs.Live.{BrokeOff, Task, WasFed, WroteOn, so_far}
 use Rattle.live_search.specs.declared.live.LiveSearch.{LiveSearch}
 

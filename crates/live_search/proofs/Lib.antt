@@ -1,6 +1,8 @@
 pub mod Begun
 pub mod Counts
+pub mod Ending
 pub mod Feeding
+pub mod Lasting
 pub mod Reaching
 pub mod Searched
 pub mod Sizes

@@ -1,20 +1,19 @@
 -- How far an engine has searched, and what its book has.
-use Rattle.std.proofs.Common.{◌≡◌, ℕ, zero, suc, ◌+◌, ◌-◌, ◌*◌, ◌/◌, ◌%◌, ◌^◌, ◌≤◌, ◌<◌, ◌++◌, Bool, true, false, List, [], ◌∷◌, length, min, max, refl, sym, ◌∙◌, ap, subst, arith}
-use Rattle.std.specs.Prelude.{All, Option, Some, filter}
+use Rattle.std.proofs.Common.{◌≡◌, ℕ, ◌+◌, ◌-◌, ◌*◌, ◌/◌, ◌%◌, ◌≤◌, ◌<◌, ◌++◌, Bool, true, false, List, [], ◌∷◌, length, refl, sym, ◌∙◌, ap, subst, arith}
+use Rattle.std.specs.Prelude.{All, Some, filter}
 use Rattle.dada_model.specs.Observation.{Observation, edges}
-use Rattle.search_model.specs.declared.candidate.Candidate.{Candidate}
 use Rattle.search_model.specs.declared.search.Search.{Search}
 use Rattle.search_model.specs.CandidateLaws.{OneShardIsAll}
 use Rattle.search_model.specs.Candidates.{plain_cells, shard_part}
 use Rattle.search_model.specs.Observed.{candidates_of, filterbank_of}
 use Rattle.search_model.specs.Parts.{ends_within, first_needed, within_part}
-use Rattle.candidate_book.specs.Book.{BookContents, book_of}
-use Rattle.search_engine.specs.Engine.{EngineState, HoldsNoFullChunk, StandsForPart, chunk_of, most_fed, scope_of, searched_to}
+use Rattle.candidate_book.specs.Book.{book_of}
+use Rattle.search_engine.specs.Engine.{EngineState, HoldsNoFullChunk, StandsForPart, chunk_of, searched_to}
 use Rattle.search_engine.specs.Laws.{PartsAreFound}
 use Rattle.search_engine.specs.Scope.{Scope, scope_of_part, spectrum_size}
 use Rattle.warm_restart.specs.Counts.{greatest_count}
 use Rattle.live_search.specs.LiveText.{next_end}
-use Rattle.live_search.specs.Live.{AreSteps, BeginsFor, IsTask, SearchesFrom, Task, settings_of}
+use Rattle.live_search.specs.Live.{AreSteps, IsTask, SearchesFrom, Task, settings_of}
 use Rattle.live_search.proofs.Sizes.{size_some, spectra_within}
 
 -- ---- numbers
@@ -62,6 +61,14 @@ tests_commute : {X : Type 0} (p q : X → Bool) (xs : List X) →
 tests_commute p q [] = refl
 tests_commute p q (x ∷ xs) =
     tests_at p q x xs (tests_commute p q xs) (p x) (q x) refl refl
+
+-- one shard has all of a part
+pub one_part : OneShardIsAll → (o : Observation) (s : Search) (place until : ℕ) (xs : List ℕ) →
+    shard_part (settings_of s) 0 (within_part place until (candidates_of o (settings_of s) xs))
+    ≡ within_part place until (candidates_of o s xs)
+one_part one o s place until xs =
+    tests_commute _ (ends_within place until) (candidates_of o (settings_of s) xs)
+    ∙ ap (within_part place until) (one (filterbank_of o xs) (edges o) (plain_cells o.channels) (settings_of s) refl)
 
 -- ---- an engine
 
@@ -118,14 +125,6 @@ module _ (found : PartsAreFound) (one : OneShardIsAll) (o : Observation) (t : Ta
       (fed_is full) early in
       omega (arith, to, less)
 
-  -- one shard has all
-  one_part : (p : ℕ) (xs : List ℕ) → shard_part (settings_of t.search) 0
-      (within_part place p (candidates_of o (settings_of t.search) xs))
-      ≡ within_part place p (candidates_of o t.search xs)
-  one_part p xs =
-      tests_commute _ (ends_within place p) (candidates_of o (settings_of t.search) xs)
-      ∙ ap (within_part place p) (one (filterbank_of o xs) (edges o) (plain_cells o.channels) (settings_of t.search) refl)
-
   pub book_is : searched_to e ≤ greatest_count → (more : List ℕ) → All (λ byte. byte < 256) more →
       t.from.place ≤ place →
       e.book ≡ book_of t.search.max_candidates
@@ -143,4 +142,4 @@ module _ (found : PartsAreFound) (one : OneShardIsAll) (o : Observation) (t : Ta
       (within_part place (searched_to e) (candidates_of o x (bytes ++ more))))) s.search
       ∙ ap (λ k. book_of t.search.max_candidates (shard_part (settings_of t.search) k
       (within_part place (searched_to e) (candidates_of o (settings_of t.search) (bytes ++ more))))) s.shard
-      ∙ ap (book_of t.search.max_candidates) (one_part (searched_to e) (bytes ++ more))
+      ∙ ap (book_of t.search.max_candidates) (one_part one o t.search place (searched_to e) (bytes ++ more))

@@ -1,5 +1,5 @@
 -- What a book keeps of the candidates of an observation can be written.
-use Rattle.std.proofs.Common.{◌≡◌, ℕ, ◌≤◌, ◌<◌, List, length, get_or, take, sym, ap, subst, ◌∙◌, arith}
+use Rattle.std.proofs.Common.{◌≡◌, ℕ, List, get_or, take, sym, ap, subst, arith}
 use Rattle.std.specs.Prelude.{All, filter}
 use Rattle.std.proofs.lemmas.List.Elements.{All-filter, All-take, Contains-get_or}
 use Rattle.dada_model.specs.Observation.{Observation, edges}

@@ -1,6 +1,6 @@
 -- A step of a search, from what its calls left.
-use Rattle.std.proofs.Common.{◌≡◌, ℕ, ◌+◌, ◌*◌, ◌^◌, ◌≤◌, ◌<◌, ◌++◌, ◌&&◌, Bool, false, not, List, [], length, take, drop, refl, sym, ◌∙◌, ap, subst, append_assoc, length-append, length-take-le, arith, Fits, w8, get_or}
-use Rattle.std.specs.Prelude.{All, Result, nat_lt}
+use Rattle.std.proofs.Common.{◌≡◌, ℕ, ◌+◌, ◌*◌, ◌^◌, ◌≤◌, ◌<◌, ◌++◌, ◌&&◌, false, not, List, [], length, take, drop, sym, ◌∙◌, ap, subst, append_assoc, length-append, length-take-le, arith, Fits, w8, get_or}
+use Rattle.std.specs.Prelude.{All, nat_lt}
 use Rattle.std.proofs.lemmas.List.{take-append-drop}
 use Rattle.std.proofs.lemmas.List.Elements.{All-append, All-drop, All-from_get_or, All-nil, All-take}
 use Rattle.dada_model.specs.Observation.{Observation}
@@ -12,9 +12,8 @@ use Rattle.candidate_book.specs.Book.{BookContents, book_of}
 use Rattle.candidate_book.specs.Conditions.{IsSearched}
 use Rattle.search_engine.specs.Engine.{EngineState, HoldsNoFullChunk, SameShard, StandsForPart, most_fed, scope_of, searched_to}
 use Rattle.search_engine.specs.Laws.{PartsAreFound}
-use Rattle.search_engine.specs.Scope.{spectrum_size}
 use Rattle.live_search.specs.LiveText.{printed, pulse_lines}
-use Rattle.live_search.specs.Live.{BrokeOff, HasBegun, IsLive, Task, WasFed, WroteOn, due_line, so_far}
+use Rattle.live_search.specs.Live.{BrokeOff, HasBegun, Task, WasFed, WroteOn, due_line, so_far}
 use Rattle.live_search.specs.declared.live.LiveSearch.{LiveSearch}
 use Rattle.live_search.proofs.Searched.{kept_searched}
 use Rattle.live_search.proofs.Sizes.{bytes_before_end, spectra_within}

@@ -1,5 +1,5 @@
 -- What a step of a search leaves, and what it writes.
-use Rattle.std.proofs.Common.{◌≡◌, ℕ, zero, suc, ◌+◌, ◌-◌, ◌*◌, ◌/◌, ◌≤◌, ◌<◌, ◌++◌, ◌⊎◌, ◌&&◌, inl, inr, Bool, true, false, cond, not, List, [], length, min, max, refl, sym, ◌∙◌, ap, subst, append-nil, append_assoc, length-append, arith}
+use Rattle.std.proofs.Common.{◌≡◌, ℕ, suc, ◌+◌, ◌-◌, ◌*◌, ◌/◌, ◌≤◌, ◌<◌, ◌++◌, ◌⊎◌, ◌&&◌, inl, inr, Bool, true, false, cond, not, List, [], length, max, refl, sym, ◌∙◌, ap, subst, append-nil, append_assoc, length-append, arith}
 use Rattle.std.specs.Prelude.{All, nat_lt}
 use Rattle.std.proofs.lemmas.Bool.{cases_lt, lt-ltb}
 use Rattle.std.proofs.lemmas.List.Elements.{All-append, All-nil}
@@ -9,15 +9,15 @@ use Rattle.search_model.specs.declared.candidate.Candidate.{Candidate}
 use Rattle.search_model.specs.CandidateLaws.{OneShardIsAll}
 use Rattle.search_model.specs.Observed.{candidates_of, filterbank_of, labels_of}
 use Rattle.search_model.specs.Parts.{check_line, within_part}
-use Rattle.candidate_book.specs.Book.{BookContents, book_of}
+use Rattle.candidate_book.specs.Book.{book_of}
 use Rattle.search_engine.specs.Engine.{EngineState, HoldsNoFullChunk, SameShard, StandsForPart, scope_of, searched_to}
 use Rattle.search_engine.specs.Laws.{PartsAreFound}
-use Rattle.search_engine.specs.Scope.{Scope, scope_from, scope_of_part}
+use Rattle.search_engine.specs.Scope.{scope_from, scope_of_part}
 use Rattle.spectra_rows.specs.Unpacking.{Unpacking}
 use Rattle.warm_restart.specs.Counts.{greatest_count}
 use Rattle.warm_restart.specs.declared.checkpoint.Checkpoint.{Checkpoint}
-use Rattle.live_search.specs.LiveText.{Layout, after_parts, counted, greatest_number, layout_of, lines_at, next_after, next_end, part_at, printed, pulse_lines}
-use Rattle.live_search.specs.Live.{AreSteps, HasBegun, IsPlaced, SearchesFrom, Task, WasFed, due_line, so_far}
+use Rattle.live_search.specs.LiveText.{Layout, after_parts, counted, layout_of, lines_at, next_after, next_end, part_at, printed, pulse_lines}
+use Rattle.live_search.specs.Live.{AreSteps, HasBegun, SearchesFrom, Task, WasFed, due_line, so_far}
 use Rattle.live_search.specs.declared.live.LiveSearch.{LiveSearch}
 use Rattle.live_search.proofs.Counts.{at_later, at_next, next_past, whole}
 use Rattle.live_search.proofs.Reaching.{book_is, end_steps, few_spectra, reaches, stays_before}

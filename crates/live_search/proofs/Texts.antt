@@ -1,15 +1,15 @@
 -- The text so far, by how many parts ended and whether a CHECK line is due.
-use Rattle.std.proofs.Common.{◌≡◌, ℕ, zero, suc, ◌+◌, ◌-◌, ◌*◌, ◌/◌, ◌≤◌, ◌<◌, ◌++◌, Bool, true, false, cond, List, [], refl, sym, ◌∙◌, ap, subst, append-nil, arith}
+use Rattle.std.proofs.Common.{◌≡◌, ℕ, zero, suc, ◌+◌, ◌-◌, ◌≤◌, ◌<◌, ◌++◌, Bool, true, false, cond, List, [], refl, ◌∙◌, ap, append-nil, arith}
 use Rattle.std.specs.Prelude.{nat_eq}
 use Rattle.std.proofs.lemmas.Bool.Decides.{nat_tests}
 use Rattle.search_model.specs.declared.candidate.Candidate.{Candidate}
 use Rattle.search_model.specs.Parts.{check_line}
 use Rattle.warm_restart.specs.declared.checkpoint.Checkpoint.{Checkpoint}
-use Rattle.live_search.specs.LiveText.{Layout, after_parts, lines_at, marked_parts, next_after, next_end, parts_before, text_so_far}
+use Rattle.live_search.specs.LiveText.{Layout, after_parts, lines_at, marked_parts, next_end, text_so_far}
 use Rattle.live_search.proofs.Counts.{at_next, count_is, next_past}
 
 -- of n parts, with the CHECK line of the last one or without it
-pub state_text : Layout → Checkpoint → List Candidate → ℕ → Bool → List ℕ
+unfoldable pub state_text : Layout → Checkpoint → List Candidate → ℕ → Bool → List ℕ
 state_text l from list n false = marked_parts check_line l from list n
 state_text l from list zero true = []
 state_text l from list (suc n) true =

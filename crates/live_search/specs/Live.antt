@@ -1,19 +1,19 @@
 -- What contracts see of a search that writes while the data come.
 -- Source: this project's choice.
 use Rattle.std.specs.Prelude.{◌≡◌, ℕ, ◌+◌, ◌*◌, ◌<◌, ◌≤◌, ◌++◌, ◌&&◌, All, Bool, true, false, List, [], length, min, take, nat_lt, if◌then◌else◌}
-use Rattle.dada_model.specs.Bounds.{ObservationInRange}
 use Rattle.dada_model.specs.Observation.{Observation}
 use Rattle.psr_base.specs.Written.{SinkSeen, WroteAll, WroteFront}
+use Rattle.search_model.specs.declared.candidate.Candidate.{Candidate}
 use Rattle.search_model.specs.declared.search.Search.{Search}
-use Rattle.search_model.specs.Observed.{candidates_of, filterbank_of}
+use Rattle.search_model.specs.Observed.{candidates_of, filterbank_of, labels_of}
 use Rattle.search_model.specs.Parts.{check_line, first_needed}
 use Rattle.search_model.specs.Search.{SettingsInRange}
-use Rattle.search_engine.specs.Engine.{EngineState, HoldsNoFullChunk, IsOpenedEngine, SameShard, StandsForPart, scope_of, searched_to, spectra_fed}
+use Rattle.search_engine.specs.Engine.{EngineState, HoldsNoFullChunk, IsOpenedEngine, SameShard, StandsForPart, scope_of, searched_to}
 use Rattle.search_engine.specs.Scope.{scope_from, scope_of_part, spectrum_size}
 use Rattle.warm_restart.specs.Checkpoint.{CanBeSaid}
 use Rattle.warm_restart.specs.Counts.{greatest_count}
 use Rattle.warm_restart.specs.declared.checkpoint.Checkpoint.{Checkpoint}
-use Rattle.live_search.specs.LiveText.{after_parts, counted, greatest_number, layout_of, next_end, text_so_far}
+use Rattle.live_search.specs.LiveText.{after_parts, counted, greatest_number, layout_of, next_end, printed, pulse_lines, text_so_far}
 use Rattle.live_search.specs.declared.live.TheConstants.{STEP}
 use Rattle.live_search.specs.declared.live.LiveSearch.{LiveSearch}
 
@@ -124,6 +124,15 @@ is_overdue spectra w = w.due && nat_lt w.from.place spectra
 abbrev pub due_line : ℕ → LiveSearch → List ℕ
 due_line spectra w =
     if is_overdue spectra w then check_line w.from.place w.from.pulses else []
+
+-- the lines of the last part's pulses, unless they were written, and how many pulses are printed with them
+abbrev pub last_pulses : Observation → LiveSearch → ℕ → List Candidate → List ℕ
+last_pulses o w spectra part =
+    if w.due then [] else pulse_lines (labels_of o) w.engine.book.limit spectra part
+
+abbrev pub last_count : LiveSearch → List Candidate → ℕ
+last_count w part =
+    if w.due then w.from.pulses else counted w.from.pulses (printed w.engine.book.limit part)
 
 -- the search of a part ended, of which so many pulses were printed, and the next one began
 pub record HasBegun (pulses : ℕ) (old new : LiveSearch) : Type 0 where

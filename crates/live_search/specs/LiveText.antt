@@ -1,6 +1,6 @@
 -- The text of a search that is written part by part while the data come.
 -- Source: this project's choice.
-use Rattle.std.specs.Prelude.{ℕ, zero, suc, ◌+◌, ◌-◌, ◌*◌, ◌/◌, ◌^◌, ◌++◌, ◌&&◌, Bool, List, [], length, min, nat_le, nat_lt, nat_eq, if◌then◌else◌, codes}
+use Rattle.std.specs.Prelude.{ℕ, zero, suc, ◌+◌, ◌-◌, ◌*◌, ◌/◌, ◌^◌, ◌++◌, Bool, List, [], length, min, nat_le, nat_lt, nat_eq, if◌then◌else◌, codes}
 use Rattle.std.specs.Fmt.{decimal}
 use Rattle.dada_model.specs.Observation.{Observation}
 use Rattle.search_model.specs.declared.candidate.Candidate.{Candidate}

@@ -2,10 +2,8 @@
 //! searched.
 #![tactic(auto)]
 
-mod laws;
 mod lines;
 mod live;
 
-pub use laws::live_texts_join;
 pub use lines::write_pulses;
 pub use live::{LiveSearch, STEP};

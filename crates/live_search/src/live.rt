@@ -1,16 +1,19 @@
 // A search that writes while the data come.
-ghost use Rattle.std.specs.Prelude.{◌≡◌, ℕ, ◌+◌, ◌*◌, ◌^◌, ◌++◌, ◌≤◌, ◌<◌, [], All, List, OnOk, OnErr, IfOk, IfErr, not, ◌&&◌, true, false, None, length, take, drop};
+ghost use Rattle.std.specs.Prelude.{◌≡◌, ℕ, ◌+◌, ◌*◌, ◌^◌, ◌++◌, ◌≤◌, ◌<◌, [], All, List, OnOk, OnErr, IfOk, IfErr, not, ◌&&◌, true, false, None, length, take};
 ghost use Rattle.dada_model.specs.Observation.{Observation as Described};
-ghost use Rattle.psr_base.specs.Written.{Wrote};
+ghost use Rattle.psr_base.specs.Written.{SinkSeen, Wrote, WroteAll};
+ghost use Rattle.candidate_book.specs.Book.{book_of};
+ghost use Rattle.candidate_book.specs.Conditions.{IsSearched};
+ghost use Rattle.search_model.specs.declared.candidate.Candidate.{Candidate};
+ghost use Rattle.search_model.specs.Parts.{check_line};
 ghost use Rattle.search_model.specs.Observed.{candidates_of, filterbank_of};
 ghost use Rattle.search_model.specs.Plan.{plan_refusal};
 ghost use Rattle.search_model.specs.Search.{SettingsInRange};
-ghost use Rattle.search_engine.specs.Engine.{most_fed, spectra_fed};
+ghost use Rattle.search_engine.specs.Engine.{most_fed};
 ghost use Rattle.search_engine.specs.Plan.{Explains};
 ghost use Rattle.search_engine.specs.Scope.{spectrum_size as spectrum_size_of};
-ghost use Rattle.warm_restart.specs.Checkpoint.{CanBeSaid};
-ghost use Rattle.live_search.specs.LiveText.{layout_of, live_text, text_so_far};
-ghost use Rattle.live_search.specs.Live.{BeginsFor, BrokeOff, HasBegun, IsLive, IsOpenedFrom, IsTask, Task, WasFed, WroteOn, due_line, fed_of, is_overdue, settings_of};
+ghost use Rattle.live_search.specs.LiveText.{layout_of, live_text, stopped_text};
+ghost use Rattle.live_search.specs.Live.{BeginsFor, BrokeOff, HasBegun, IsLive, IsOpenedFrom, IsTask, Task, WasFed, WroteOn, due_line, fed_of, is_overdue, last_count, last_pulses, settings_of, so_far};
 
 use crate::lines::write_pulses;
 use candidate_book::SinkStop;
@@ -19,7 +22,7 @@ use psr_base::{Memory, Sink};
 use search_engine::{Engine, PlanFault, Scope, check_plan};
 use search_model::Search;
 use std::alloc::Global;
-use warm_restart::{Checkpoint, first_needed};
+use warm_restart::{Checkpoint, first_needed, write_last_line};
 // Laws: they do nothing when they run, and the proofs use what they ensure.
 use psr_base::pieces_join;
 use search_engine::parts_are_found;
@@ -76,6 +79,13 @@ fn spectrum_size(observation: &Observation) -> u64
 {
     observation.lies_in_range();
     u64::from(observation.channels()) * u64::from(observation.npol() * observation.nbit() / 8)
+}
+
+// Writes the CHECK line of a place.
+fn write_check<K: Sink>(place: u64, pulses: u64, sink: &mut K) -> Result<(), SinkStop>
+    ensures { Wrote (check_line place pulses) (K.seen sink.old) (K.seen sink.new) result }
+{
+    Checkpoint { place, pulses }.write(sink)
 }
 
 // The engine of all delays that looks for the pulses from spectrum `place` on, for a search that fits.
@@ -159,6 +169,104 @@ impl LiveSearch {
             }
         }
         Ok(())
+    }
+
+    /// Ends data that came to their end: writes the lines of the last part, and END. Nothing is fed after it.
+    pub fn finish<K: Sink>(
+        &mut self,
+        observation: &Observation,
+        sink: &mut K,
+    ) -> Result<(), SinkStop>
+        requires live { IsLive observation.now self.old }
+        ensures wrote { (t : Task) (bytes : List ℕ) (start : SinkSeen)
+            → WasFed observation.now t bytes self.old
+            → WroteAll (so_far observation.now t bytes bytes) start (K.seen sink.old)
+            → Wrote (live_text observation.now t.search t.every t.from bytes) start
+            (K.seen sink.new) result }
+    {
+        pieces_join();
+        parts_are_found();
+        candidates_are_listed();
+        one_shard_is_all();
+        self.engine.end();
+        let spectra = self.engine.whole_spectra();
+        match self.write_last(observation, spectra, sink) {
+            Ok(pulses) => write_last_line(spectra, spectra, pulses, sink),
+            Err(stop) => Err(stop),
+        }
+    }
+
+    /// Ends data that stopped early: writes the lines of the part that was begun, and a CHECK line that says how many
+    /// spectra came, where they came past its place. Nothing is fed after it.
+    pub fn stop<K: Sink>(&mut self, observation: &Observation, sink: &mut K) -> Result<(), SinkStop>
+        requires live { IsLive observation.now self.old }
+        ensures wrote { (t : Task) (bytes : List ℕ) (start : SinkSeen)
+            → WasFed observation.now t bytes self.old
+            → WroteAll (so_far observation.now t bytes bytes) start (K.seen sink.old)
+            → Wrote (stopped_text (layout_of observation.now t.search t.every) t.from
+            (filterbank_of observation.now bytes).spectra
+            (candidates_of observation.now t.search bytes)) start (K.seen sink.new) result }
+    {
+        pieces_join();
+        parts_are_found();
+        candidates_are_listed();
+        one_shard_is_all();
+        self.engine.end();
+        let spectra = self.engine.whole_spectra();
+        if self.came_no_further(spectra) {
+            return Ok(());
+        }
+        match self.write_last(observation, spectra, sink) {
+            Ok(pulses) => write_check(spectra, pulses, sink),
+            Err(stop) => Err(stop),
+        }
+    }
+
+    // Whether so many spectra came no further than to the place of the checkpoint, whose CHECK line is written.
+    fn came_no_further(&self, spectra: u64) -> bool
+        ensures nothing { result ≡ true
+            → (self.now.due ≡ false) × (spectra ≤ self.now.from.place) }
+        ensures further { result ≡ false → self.now.due ≡ false → self.now.from.place < spectra }
+    {
+        if self.due {
+            return false;
+        }
+        spectra <= self.from.place
+    }
+
+    // Writes the lines of the pulses of the last part, of so many spectra in all, unless they were written. Answers how
+    // many pulses are printed with them.
+    fn write_last<K: Sink>(
+        &self,
+        observation: &Observation,
+        spectra: u64,
+        sink: &mut K,
+    ) -> Result<u64, SinkStop>
+        requires searched { All IsSearched self.now.engine.book.kept }
+        ensures lines { let w = self.now in (part : List Candidate)
+            → w.engine.book ≡ book_of w.engine.book.limit part
+            → Wrote (last_pulses observation.now w spectra part) (K.seen sink.old)
+            (K.seen sink.new) result }
+        ensures count { let w = self.now in (part : List Candidate)
+            → w.engine.book ≡ book_of w.engine.book.limit part
+            → IfOk result (λ n. n ≡ last_count w part) }
+    {
+        pieces_join();
+        if self.due {
+            return Ok(self.from.pulses);
+        }
+        match write_pulses(self.engine.book(), observation, spectra, sink) {
+            Ok(pulses) => Ok(self.from.pulses.saturating_add(pulses)),
+            Err(stop) => Err(stop),
+        }
+    }
+
+    /// How many whole spectra the bytes are that were fed.
+    pub fn spectra(&self) -> u64
+        ensures { (o : Described) (t : Task) (bytes : List ℕ) → WasFed o t bytes self.now
+            → result ≡ (filterbank_of o bytes).spectra }
+    {
+        self.engine.whole_spectra()
     }
 
     // Takes bytes up to the end of the part at most, and writes what is due then. Answers how many it took.

@@ -1,6 +1,5 @@
 use Rattle.std.proofs.Common.{refl}
 use Rattle.live_search.proofs.Begun.{opened_was}
-use Rattle.live_search.proofs.Stepping.{Went}
 use Rattle.live_search.proofs.live.LiveSearch.open.Goals as goal
 
 pub returns-in-Ok-clause-opened : goal.returns-in-Ok-clause-opened

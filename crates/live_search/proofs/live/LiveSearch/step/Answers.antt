@@ -1,9 +1,6 @@
-use Rattle.std.proofs.Common.{◌≡◌, ◌++◌, List, ℕ, take, sym, ◌∙◌, ap, subst, arith}
-use Rattle.search_engine.specs.Engine.{EngineState}
-use Rattle.live_search.specs.Live.{IsLive, Task, WasFed}
+use Rattle.std.proofs.Common.{◌++◌, List, ℕ, take, arith}
 use Rattle.live_search.specs.declared.live.LiveSearch.{LiveSearch}
-use Rattle.live_search.proofs.Steps.{Came}
-use Rattle.live_search.proofs.Stepping.{Went, amid_stands, amid_writes, bytes_are, came_of, due_breaks, end_breaks, end_searched, end_stands, end_writes}
+use Rattle.live_search.proofs.Stepping.{amid_stands, amid_writes, bytes_are, came_of, due_breaks, end_breaks, end_searched, end_stands, end_writes}
 use Rattle.live_search.proofs.live.LiveSearch.step.Goals as goal
 
 pub returns-in-Err-clause-broke : goal.returns-in-Err-clause-broke
@@ -81,9 +78,9 @@ write_pulses-requires g c =
       searched = end_searched c.parts_are_found.ensures c.one_shard_is_all.ensures c.pieces_join.ensures.pieces o
           live.task live.bytes bytes w c.write_due.new.self c.feed.new.self c.whole_spectra-spectra.result
           c.room-count.result came c.room-count.ensures.most numbers (record {
-        count = c.whole_spectra-spectra.ensures.all o _ came.stands;
-        state = c.in-Ok.ensures.state;
-      }) c.candidates_are_listed.ensures _ c.book.ensures (omega (arith, to, late));
+            count = c.whole_spectra-spectra.ensures.all o _ came.stands;
+            state = c.in-Ok.ensures.state;
+          }) c.candidates_are_listed.ensures _ c.book.ensures (omega (arith, to, late));
     }
 
 pub returns-in-Ok-write_pulses-clause-fed : goal.returns-in-Ok-write_pulses-clause-fed
