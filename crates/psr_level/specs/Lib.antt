@@ -1,0 +1,4 @@
+pub mod Notes
+pub mod Flows
+pub mod Files
+pub mod Opening
