@@ -2,11 +2,11 @@
 #![tactic(auto)]
 
 mod flow;
-mod lent;
+//mod lent;
 mod open;
-mod run;
+//mod run;
 mod stop;
-mod top;
+//mod top;
 
 pub use stop::LevelStop;
-pub use top::run_level;
+//pub use top::run_level;

@@ -1,12 +1,17 @@
 // What comes before the data.
-ghost use Rattle.std.specs.Prelude.{◌≡◌, ◌≢◌, [], ◌∷◌, Err, IfOk, IfErr};
+ghost use Rattle.std.specs.Prelude.{◌≡◌, ◌≢◌, [], ◌∷◌, length, Some, Err, IfOk, IfErr, OnOk};
 ghost use Rattle.psr_base.specs.Inputs.{HasReadFrom};
 ghost use Rattle.search_words.specs.Settings.{run_seen};
 ghost use Rattle.disk_feeder.specs.Feeder.{HasPlan, IsFresh, headers_of};
 ghost use Rattle.disk_feeder.specs.Filling.{HoldsAll};
 ghost use Rattle.search_opening.specs.Begun.{HasFirsts};
 ghost use Rattle.level_words.specs.Settings.{LevelInRange, level_seen};
-ghost use Rattle.psr_level.specs.Opening.{OpensFor, StopsFor, SaysBefore, IsOpened};
+ghost use Rattle.dada_model.specs.Fields.{HeaderText};
+ghost use Rattle.dada_model.specs.Observation.{Observation as Described};
+ghost use Rattle.channel_mask.specs.Masks.{IsMaskOf, mask_of};
+ghost use Rattle.level_plan.specs.Plans.{OptionsInRange, marks_of};
+ghost use Rattle.level_plan.specs.Headers.{level_header as level_header_of};
+ghost use Rattle.psr_level.specs.Opening.{OpensFor, StopsFor, SaysBefore, IsOpened, long_time as long_time_of};
 
 use crate::stop::LevelStop;
 use arrayvec::ArrayVec;
@@ -33,11 +38,21 @@ pub(crate) struct Opened {
 }
 
 // The stop of a TSAMP that no search takes.
-fn long_time() -> LevelStop {
+fn long_time() -> LevelStop
+    ensures { result ≡ LevelStop.Run long_time_of }
+{
     LevelStop::Run(Stop::Header {
         file: 0,
         cause: HeaderCause::Fields(ObsFault::OutOfRange(Key::Tsamp)),
     })
+}
+
+// A law: the options of settings that lie in their ranges do.
+fn options_lie_in_range(settings: &LevelSettings)
+    requires { LevelInRange (level_seen settings.now) }
+    ensures { OptionsInRange settings.now.options }
+{
+    let _ = &settings.options;
 }
 
 // The marks of the channels that the mask text names.
@@ -45,7 +60,15 @@ fn open_marks(
     alloc: Global,
     settings: &LevelSettings,
     observation: &Observation,
-) -> Result<Vec<bool>, LevelStop> {
+) -> Result<Vec<bool>, LevelStop>
+    ensures mask { OnOk result (IsMaskOf observation.now (level_seen settings.now).mask
+        (mask_of observation.now (level_seen settings.now).mask)) }
+    ensures marks { IfOk result (λ marks.
+        marks.items ≡ marks_of (level_seen settings.now).mask observation.now) }
+    ensures long { IfOk result (λ marks. length marks.items ≡ observation.now.channels) }
+    ensures stopped { IfErr result (λ stop. (header : HeaderText)
+        → StopsFor (level_seen settings.now) observation.now header stop) }
+{
     let text = settings.mask.as_bytes();
     let mask = match Mask::read(alloc, text, observation) {
         Ok(mask) => mask,
@@ -64,7 +87,13 @@ fn open_header(
     settings: &LevelSettings,
     observation: &Observation,
     header: &Header,
-) -> Result<Header, LevelStop> {
+) -> Result<Header, LevelStop>
+    requires { OptionsInRange settings.now.options }
+    ensures header { IfOk result (λ levelled.
+        levelled ≡ level_header_of settings.now.options observation.now header.now) }
+    ensures stopped { IfErr result
+        (StopsFor (level_seen settings.now) observation.now header.now) }
+{
     match level_header(alloc, settings.options, observation, header) {
         Ok(header) => Ok(header),
         Err(HeaderStop::Overfull { need, size }) => Err(LevelStop::NoRoom { need, size }),
@@ -85,6 +114,7 @@ fn open_for(
     ensures stopped { IfErr result
         (StopsFor (level_seen settings.now) observation.now header.now) }
 {
+    options_lie_in_range(settings);
     if !takes_time(settings.options, observation) {
         return Err(long_time());
     }
@@ -101,6 +131,29 @@ fn open_for(
     match Leveller::open(alloc, format, plan, marks.as_slice()) {
         Ok(leveller) => Ok(Opened { header, leveller }),
         Err(_memory) => Err(LevelStop::Run(Stop::Memory)),
+    }
+}
+
+// The same for the only observation of a list.
+fn open_first(
+    alloc: Global,
+    settings: &LevelSettings,
+    observations: &[Option<Observation>],
+    header: &Header,
+) -> Result<Opened, LevelStop>
+    requires range { LevelInRange (level_seen settings.now) }
+    requires one { (o : Described) × (observations.now ≡ Some o ∷ []) }
+    ensures opened { IfOk result (λ opened. (o : Described) → observations.now ≡ Some o ∷ []
+        → OpensFor (level_seen settings.now) o header.now opened) }
+    ensures stopped { IfErr result (λ stop. (o : Described) → observations.now ≡ Some o ∷ []
+        → StopsFor (level_seen settings.now) o header.now stop) }
+{
+    let Some(observation) = &observations[0] else {
+        unreachable!()
+    };
+    match open_for(alloc, settings, observation, header) {
+        Ok(opened) => Ok(opened),
+        Err(stop) => Err(stop),
     }
 }
 
@@ -122,16 +175,34 @@ fn open_begun<'a, I: Inputs>(
         (SaysBefore (level_seen settings.now) (I.told feeder.old.inputs.now)) }
     ensures readable { result ≢ Err (LevelStop.Run Stop.ReadFault) }
 {
-    let Some(observation) = &observations[0] else {
-        unreachable!()
-    };
-    match open_for(alloc, settings, observation, feeder.header(0)) {
+    match open_first(alloc, settings, observations, feeder.header(0)) {
         Ok(opened) => {
             accept_all(feeder, observations);
             Ok(opened)
         }
         Err(stop) => Err(stop),
     }
+}
+
+// The same for observations that are given.
+fn open_given<'a, I: Inputs>(
+    alloc: Global,
+    settings: &LevelSettings,
+    feeder: &mut Feeder<'a, I>,
+    observations: ArrayVec<Option<Observation>, MOST_TRANSFERS>,
+) -> Result<Opened, LevelStop>
+    requires range { LevelInRange (level_seen settings.now) }
+    requires one { (run_seen settings.now.run).starts ≡ 0 ∷ [] }
+    requires begun { HasFirsts I.told I.is_open (run_seen settings.now.run) feeder.old
+        observations.items }
+    ensures same_reference { feeder.new.inputs.ghost_name ≡ feeder.old.inputs.ghost_name }
+    ensures inputs { feeder.new.inputs.now ≡ feeder.old.inputs.now }
+    ensures opened { IfOk result (IsOpened I.told I.is_open (level_seen settings.now) feeder.new) }
+    ensures stopped { IfErr result
+        (SaysBefore (level_seen settings.now) (I.told feeder.old.inputs.now)) }
+    ensures readable { result ≢ Err (LevelStop.Run Stop.ReadFault) }
+{
+    open_begun(alloc, settings, feeder, observations.as_slice())
 }
 
 /// Reads the first header, judges it with the mask and the room in it, and takes all memory.
@@ -159,7 +230,7 @@ pub(crate) fn open<'a, I: Inputs>(
     early_stops_stand();
     firsts_stay_told();
     match begin_run(alloc, &settings.run, feeder) {
-        Ok(observations) => open_begun(alloc, settings, feeder, observations.as_slice()),
+        Ok(observations) => open_given(alloc, settings, feeder, observations),
         Err(stop) => Err(LevelStop::Run(stop)),
     }
 }
