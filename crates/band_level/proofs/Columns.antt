@@ -45,6 +45,33 @@ part_most low high x y most small = elim (is_between low high x) as (λ b. cond 
   | false ↦ omega arith
 ]
 
+-- the square of what is counted of a value
+part_square : (low high x : ℕ) → part_of low high x x * part_of low high x x ≡ part_of low high x (x * x)
+part_square low high x = elim (is_between low high x)
+    as (λ b. cond b x 0 * cond b x 0 ≡ cond b (x * x) 0) [
+  | true ↦ refl
+  | false ↦ refl
+]
+
+-- a row whose values between the bounds were kept
+pub adds_kept : (lows highs row kept counts totals squares counts' totals' squares' : List ℕ) → length kept ≡ length row
+    → ((i : ℕ) → i < length row → slice_index kept i
+      ≡ part_of (slice_index lows i) (slice_index highs i) (slice_index row i) (slice_index row i))
+    → ((i : ℕ) → i < length row → slice_index counts' i ≡ slice_index counts i
+      + part_of (slice_index lows i) (slice_index highs i) (slice_index row i) 1)
+    → ((i : ℕ) → i < length kept → slice_index totals' i ≡ slice_index totals i + slice_index kept i)
+    → ((i : ℕ) → i < length kept → slice_index squares' i
+      ≡ slice_index squares i + slice_index kept i * slice_index kept i)
+    → AddsRow lows highs row counts totals squares counts' totals' squares'
+adds_kept lows highs row kept counts totals squares counts' totals' squares' long keeps count total square = record {
+  count = count;
+  total = λ i lt. total i (omega arith) ∙ ap (λ v. slice_index totals i + v) (keeps i lt);
+  square = λ i lt. square i (omega arith)
+      ∙ ap (λ v. slice_index squares i + v * v) (keeps i lt)
+      ∙ ap (λ v. slice_index squares i + v)
+        (part_square (slice_index lows i) (slice_index highs i) (slice_index row i));
+}
+
 part_one : (low high x : ℕ) → part_of low high x 1 ≤ 1
 part_one low high x = elim (is_between low high x) as (λ b. cond b 1 0 ≤ 1) [
   | true ↦ omega arith
