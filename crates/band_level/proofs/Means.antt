@@ -85,8 +85,8 @@ sums_up before here step a (suc n) =
     ap before e ∙ step (a + n)
     ∙ ap (λ v. v + here (a + n)) (sums_up before here step a n)
     ∙ (let more = sum_range_more_from here a n (a + n) refl in
-      let same = ap (λ m. sum_by here (range_with_len a m)) g in
-      omega arith)
+    let same = ap (λ m. sum_by here (range_with_len a m)) g in
+    omega arith)
 
 -- sums of terms with a part that is always the same
 sums_of : (f g : ℕ → ℕ) (c a n : ℕ) → ((t : ℕ) → a ≤ t → t < a + n → f t ≡ g t + c)
@@ -177,22 +177,22 @@ means k b stretch i range fits all uncut =
     let s = scale_of k.plan (is_masked k i) m in
     let own : (t : ℕ) → a ≤ t → t < a + n → scale_at k b t i ≡ s =
     λ t low high.
-      ap (λ r. scale_by k b r i)
-        (own_stretch k b (stretch + 1) t some fits (omega arith) ∙ quotient t stretch n low (omega arith))
-      ∙ ap (scale_of k.plan (is_masked k i)) fair in
+    ap (λ r. scale_by k b r i)
+    (own_stretch k b (stretch + 1) t some fits (omega arith) ∙ quotient t stretch n low (omega arith))
+    ∙ ap (scale_of k.plan (is_masked k i)) fair in
     let levels : sum_by (whole k b i) (range_with_len a n)
-        ≡ sum_by (level k b i) (range_with_len a n) + n * s.lift =
+    ≡ sum_by (level k b i) (range_with_len a n) + n * s.lift =
     sums_of (whole k b i) (level k b i) s.lift a n
-      (λ t low high.
-        let u = uncut t low (omega arith) in
-        let lift : (scale_at k b t i).lift ≡ s.lift = ap (λ (z : Scale). z.lift) (own t low high) in
-        let under = u.low in
-        let over = u.high in
-        omega arith) in
+    (λ t low high.
+    let u = uncut t low (omega arith) in
+    let lift : (scale_at k b t i).lift ≡ s.lift = ap (λ (z : Scale). z.lift) (own t low high) in
+    let under = u.low in
+    let over = u.high in
+    omega arith) in
     let wholes = telescopes (whole k b i) (fine_before k b i) (fine k b i) (fine_step k b i) (λ t. refl) a n in
     let up = sums_up (fine_before k b i) (fine k b i) (fine_step k b i) a n in
     let fines : sum_by (fine k b i) (range_with_len a n)
-        ≡ sum_by (λ t. s.gain * b.value t i) (range_with_len a n) + n * s.base =
+    ≡ sum_by (λ t. s.gain * b.value t i) (range_with_len a n) + n * s.base =
     sums_of (fine k b i) (λ t. s.gain * b.value t i) s.base a n (λ t low high. fine_with k b i t s (own t low high)) in
     let times = sums_times s.gain (λ t. b.value t i) a n in
     let e0 : a + 0 ≡ a = omega arith in

@@ -5,5 +5,4 @@ ghost use Rattle.band_level.specs.Laws.{MeansAreKept};
 /// channel and polarisation sums up to that many means, but for less than two.
 pub fn means_are_kept()
     ensures { MeansAreKept }
-{
-}
+{}

@@ -33,7 +33,7 @@ fn keep_row(row: &mut [u32], lows: &[u32], highs: &[u32], counts: &mut [u32])
     requires small { (i : ℕ) → slice_index counts.old i ≤ 1048575 }
     ensures keeps { (i : ℕ) → i < length row.old → slice_index row.new i
         ≡ part_of (slice_index lows.now i) (slice_index highs.now i) (slice_index row.old i)
-          (slice_index row.old i) }
+        (slice_index row.old i) }
     ensures counts { (i : ℕ) → i < length row.old → slice_index counts.new i
         ≡ slice_index counts.old i
         + part_of (slice_index lows.now i) (slice_index highs.now i) (slice_index row.old i) 1 }
