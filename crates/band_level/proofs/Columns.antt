@@ -1,0 +1,120 @@
+-- The sums of one spectrum more.
+use Rattle.std.proofs.Common.{◌≡◌, ℕ, ◌+◌, ◌*◌, ◌<◌, ◌≤◌, inl, inr, true, false, cond, List, length, slice_index, replicate, sym, ◌∙◌, ap, refl, arith}
+use Rattle.std.proofs.Math.Nat.{mul-le-mul}
+use Rattle.std.proofs.lemmas.Bool.{cases_lt}
+use Rattle.std.proofs.lemmas.List.{get_or_past}
+use Rattle.band_level.specs.Columns.{AddsRow, AreSums, AreSmall, part_of, is_between, counted}
+use Rattle.band_level.proofs.Ranges.{filtered_sum_more, filtered_length_more}
+
+-- what is added for a value, and for one that is equal
+next : (a b low high x y z w : ℕ) → a ≡ b + part_of low high x y → x ≡ z → y ≡ w
+    → a ≡ b + part_of low high z w
+next a b low high x y z w e ex ey = e ∙ ap (λ v. b + part_of low high v y) ex ∙ ap (λ v. b + part_of low high z v) ey
+
+pub sums_more : (value : ℕ → ℕ → ℕ) (cells n : ℕ)
+    (lows highs row counts totals squares counts' totals' squares' : List ℕ)
+    → AreSums value cells n lows highs counts totals squares
+    → AddsRow lows highs row counts totals squares counts' totals' squares'
+    → length row ≡ cells → ((i : ℕ) → i < cells → slice_index row i ≡ value n i)
+    → AreSums value cells (n + 1) lows highs counts' totals' squares'
+sums_more value cells n lows highs row counts totals squares counts' totals' squares' sums adds long is = record {
+  count = λ i lt.
+      let low = slice_index lows i in
+      let high = slice_index highs i in
+      next _ _ low high _ 1 _ 1 (adds.count i (omega arith)) (is i lt) refl
+      ∙ ap (λ s. s + part_of low high (value n i) 1) (sums.count i lt)
+      ∙ sym (filtered_length_more (λ t. value t i) (is_between low high) n);
+  total = λ i lt.
+      let low = slice_index lows i in
+      let high = slice_index highs i in
+      next _ _ low high _ _ _ _ (adds.total i (omega arith)) (is i lt) (is i lt)
+      ∙ ap (λ s. s + part_of low high (value n i) (value n i)) (sums.total i lt)
+      ∙ sym (filtered_sum_more (λ x. x) (λ t. value t i) (is_between low high) n);
+  square = λ i lt.
+      let low = slice_index lows i in
+      let high = slice_index highs i in
+      next _ _ low high _ _ _ _ (adds.square i (omega arith)) (is i lt) (ap (λ x. x * x) (is i lt))
+      ∙ ap (λ s. s + part_of low high (value n i) (value n i * value n i)) (sums.square i lt)
+      ∙ sym (filtered_sum_more (λ x. x * x) (λ t. value t i) (is_between low high) n);
+}
+
+-- a value that is added, at most so many times as one is counted
+part_most : (low high x y most : ℕ) → y ≤ most → part_of low high x y ≤ part_of low high x 1 * most
+part_most low high x y most small = elim (is_between low high x) as (λ b. cond b y 0 ≤ cond b 1 0 * most) [
+  | true ↦ omega arith
+  | false ↦ omega arith
+]
+
+-- the square of what is counted of a value
+part_square : (low high x : ℕ) → part_of low high x x * part_of low high x x ≡ part_of low high x (x * x)
+part_square low high x = elim (is_between low high x)
+    as (λ b. cond b x 0 * cond b x 0 ≡ cond b (x * x) 0) [
+      | true ↦ refl
+      | false ↦ refl
+    ]
+
+-- a row whose values between the bounds were kept
+pub adds_kept : (lows highs row kept counts totals squares counts' totals' squares' : List ℕ) → length kept ≡ length row
+    → ((i : ℕ) → i < length row → slice_index kept i
+    ≡ part_of (slice_index lows i) (slice_index highs i) (slice_index row i) (slice_index row i))
+    → ((i : ℕ) → i < length row → slice_index counts' i ≡ slice_index counts i
+    + part_of (slice_index lows i) (slice_index highs i) (slice_index row i) 1)
+    → ((i : ℕ) → i < length kept → slice_index totals' i ≡ slice_index totals i + slice_index kept i)
+    → ((i : ℕ) → i < length kept → slice_index squares' i
+    ≡ slice_index squares i + slice_index kept i * slice_index kept i)
+    → AddsRow lows highs row counts totals squares counts' totals' squares'
+adds_kept lows highs row kept counts totals squares counts' totals' squares' long keeps count total square = record {
+  count = count;
+  total = λ i lt. total i (omega arith) ∙ ap (λ v. slice_index totals i + v) (keeps i lt);
+  square = λ i lt. square i (omega arith)
+      ∙ ap (λ v. slice_index squares i + v * v) (keeps i lt)
+      ∙ ap (λ v. slice_index squares i + v)
+      (part_square (slice_index lows i) (slice_index highs i) (slice_index row i));
+}
+
+part_one : (low high x : ℕ) → part_of low high x 1 ≤ 1
+part_one low high x = elim (is_between low high x) as (λ b. cond b 1 0 ≤ 1) [
+  | true ↦ omega arith
+  | false ↦ omega arith
+]
+
+pub small_more : (n : ℕ) (lows highs row counts totals squares counts' totals' squares' : List ℕ)
+    → AreSmall n counts totals squares
+    → AddsRow lows highs row counts totals squares counts' totals' squares'
+    → ((i : ℕ) → slice_index row i ≤ 4194303)
+    → length counts' ≡ length row → length totals' ≡ length row → length squares' ≡ length row
+    → AreSmall (n + 1) counts' totals' squares'
+small_more n lows highs row counts totals squares counts' totals' squares' small adds values lc lt ls = record {
+  count = λ i. elim (cases_lt i (length row)) [
+    | inl h ↦ omega (
+      arith,
+      adds.count i h,
+      small.count i,
+      part_one (slice_index lows i) (slice_index highs i) (slice_index row i),
+    )
+    | inr h ↦ omega (arith, get_or_past counts' i 0 (omega arith))
+  ];
+  total = λ i. elim (cases_lt i (length row)) [
+    | inl h ↦ omega (
+      arith,
+      adds.count i h,
+      adds.total i h,
+      small.total i,
+      part_most (slice_index lows i) (slice_index highs i) (slice_index row i) (slice_index row i) 4194303 (values i),
+    )
+    | inr h ↦ omega (arith, get_or_past totals' i 0 (omega arith))
+  ];
+  square = λ i. elim (cases_lt i (length row)) [
+    | inl h ↦ omega (
+      arith,
+      adds.count i h,
+      adds.square i h,
+      small.square i,
+      part_most (slice_index lows i) (slice_index highs i) (slice_index row i)
+          (slice_index row i * slice_index row i) 17592177655809
+          (let e : slice_index row i * slice_index row i ≤ 4194303 * 4194303 = mul-le-mul (values i) (values i) in
+          omega (arith, e)),
+    )
+    | inr h ↦ omega (arith, get_or_past squares' i 0 (omega arith))
+  ];
+}

@@ -1,0 +1,235 @@
+-- Spectra that are levelled, and the end of the data.
+use Rattle.std.proofs.Common.{◌≡◌, ℕ, zero, suc, refl, ◌+◌, ◌-◌, ◌*◌, ◌/◌, ◌%◌, ◌<◌, ◌≤◌, ◌⊎◌, min, inl, inr, Bool, true, false, List, [], ◌++◌, length, drop, slice_index, ◌∙◌, sym, ap, subst, append_assoc, append-nil, arith}
+use Rattle.std.specs.List.{range_with_len, flat_map}
+use Rattle.std.proofs.Math.Nat.{mul-le-mul, mul-le-mul_right, div-mul-le_self}
+use Rattle.std.proofs.lemmas.List.{drop_all}
+use Rattle.std.proofs.lemmas.Nat.{le-div, div-mul-add, div-add-mod', mod_below, div_below}
+use Rattle.psr_base.proofs.Ranges.{flat_map_range_more}
+use Rattle.band_level.specs.Ranges.{FormatInRange}
+use Rattle.band_level.specs.Values.{Band, cells, spectrum_bytes, cell_value}
+use Rattle.band_level.specs.Scales.{unit}
+use Rattle.band_level.specs.Rows.{HoldScales}
+use Rattle.band_level.specs.Levelled.{Task, scale_by, scale_at, stretch_for, fine_before, first_levels, spectrum_levels, levelled}
+use Rattle.band_level.specs.Spectra.{AreHeld, AreLevelled, LevelsSpectra}
+use Rattle.band_level.specs.Levelling.{Levelling, IsAt, StandsFor, Waits, IsWhole, Ends, Levels, IsDone, band_of, pending}
+use Rattle.band_level.proofs.Agreeing.{own_stretch}
+use Rattle.band_level.proofs.Standing.{held_cells, held_scales, is_waiting, some_bytes}
+
+-- ---- levels behind others
+
+front_and_rest : (f : ℕ → List ℕ) (a n : ℕ) → flat_map f (range_with_len 0 (a + n))
+    ≡ flat_map f (range_with_len 0 a) ++ flat_map f (range_with_len a n)
+front_and_rest f a zero =
+    let e : a + 0 ≡ a = omega arith in
+    ap (λ m. flat_map f (range_with_len 0 m)) e ∙ sym (append-nil (flat_map f (range_with_len 0 a)))
+front_and_rest f a (suc n) =
+    let e : a + suc n ≡ a + n + 1 = omega arith in
+    let g : n + 1 ≡ suc n = omega arith in
+    ap (λ m. flat_map f (range_with_len 0 m)) e
+    ∙ flat_map_range_more f 0 (a + n) (a + n) (omega arith)
+    ∙ ap (λ xs. xs ++ f (a + n)) (front_and_rest f a n)
+    ∙ append_assoc (flat_map f (range_with_len 0 a)) (flat_map f (range_with_len a n)) (f (a + n))
+    ∙ ap (λ xs. flat_map f (range_with_len 0 a) ++ xs)
+    (sym (flat_map_range_more f a n (a + n) refl) ∙ ap (λ m. flat_map f (range_with_len a m)) g)
+
+levels_behind : (k : Task) (b : Band) (a n : ℕ)
+    → first_levels k b (a + n) ≡ first_levels k b a ++ flat_map (spectrum_levels k b) (range_with_len a n)
+unfolding first_levels
+levels_behind k b a n = front_and_rest (spectrum_levels k b) a n
+
+-- ---- what is to be levelled
+
+-- the spectra to be levelled are held, and their scales are those of one stretch
+record IsReady (l : Levelling) (bytes : List ℕ) (start stretch : ℕ) : Type 0 where
+  inside : l.last * spectrum_bytes l.task.format ≤ length l.held
+  scaled : l.is_scaled ≡ true
+  here : (t : ℕ) → start ≤ t → t < start + l.last → stretch_for l.task (band_of l bytes) t ≡ stretch
+
+-- a quotient, where the rest is known
+pub quotient : (t q n : ℕ) → q * n ≤ t → t < (q + 1) * n → t / n ≡ q
+quotient t q n low high =
+    let e : t ≡ q * n + (t - q * n) = omega arith in
+    ap (λ m. m / n) e ∙ div-mul-add q n (t - q * n) (omega arith)
+
+whole_is_ready : (l : Levelling) (bytes : List ℕ) (start stretch : ℕ) → FormatInRange l.task.format
+    → 0 < l.task.plan.spectra → IsAt l bytes start → IsWhole l start stretch → IsReady l bytes start stretch
+whole_is_ready l bytes start stretch range some place whole =
+    let n = l.task.plan.spectra in
+    let sb = spectrum_bytes l.task.format in
+    let size = place.size in
+    let long = whole.long in
+    let is_start = whole.begins in
+    let all : (stretch + 1) * n ≤ length bytes / sb =
+    le-div ((stretch + 1) * n) _ _ (some_bytes l.task.format range)
+    (let e : (stretch + 1) * n * sb ≡ start * sb + n * sb =
+    ap (λ m. m * sb) (let h : (stretch + 1) * n ≡ start + n = omega arith in h) ∙ omega arith in
+    omega arith) in
+    record {
+      inside = let e : l.last * sb ≡ n * sb = ap (λ m. m * sb) whole.last in omega arith;
+      scaled = whole.scaled;
+      here = λ t low high.
+          let last = whole.last in
+          own_stretch l.task (band_of l bytes) (stretch + 1) t some all (omega arith)
+          ∙ quotient t stretch n (omega arith) (omega arith);
+    }
+
+ends_is_ready : (l : Levelling) (bytes : List ℕ) (start stretch : ℕ) → FormatInRange l.task.format
+    → 0 < l.last → IsAt l bytes start → Ends l bytes start stretch → IsReady l bytes start stretch
+ends_is_ready l bytes start stretch range some place ends =
+    let sb = spectrum_bytes l.task.format in
+    let size = place.size in
+    let fits : length bytes / sb * sb ≤ length bytes = div-mul-le_self (length bytes) sb in
+    let e : (start + l.last) * sb ≡ length bytes / sb * sb = ap (λ m. m * sb) ends.last in
+    record {
+      inside = omega arith;
+      scaled = ends.scaled some;
+      here = ends.here;
+    }
+
+ready : (l : Levelling) (bytes : List ℕ) (start stretch : ℕ) → FormatInRange l.task.format
+    → 0 < l.task.plan.spectra → 0 < pending l → StandsFor l bytes start stretch → IsReady l bytes start stretch
+ready l bytes start stretch range some next stands = elim stands.stage [
+  | inl waits ↦ let e = waits.last in absurd (omega arith)
+  | inr other ↦ elim other [
+    | inl whole ↦ whole_is_ready l bytes start stretch range some stands.place whole
+    | inr ends ↦ ends_is_ready l bytes start stretch range (omega arith) stands.place ends
+  ]
+]
+
+held_spectra : (l : Levelling) (bytes : List ℕ) (start stretch count : ℕ) → FormatInRange l.task.format
+    → StandsFor l bytes start stretch → IsReady l bytes start stretch → l.first + count ≤ l.last
+    → AreHeld l.task (band_of l bytes) (start + l.first) count l.held l.first l.gains l.bases l.lifts
+held_spectra l bytes start stretch count range stands is_ready few = record {
+  values = λ t i lt here.
+      let inside = is_ready.inside in
+      let part : (l.first + t + 1) * spectrum_bytes l.task.format ≤ l.last * spectrum_bytes l.task.format =
+      mul-le-mul_right _ (omega arith) in
+      let e : start + (l.first + t) ≡ start + l.first + t = omega arith in
+      held_cells l bytes start (l.first + t) i range stands.place (omega arith) here
+      ∙ ap (λ u. cell_value l.task.format bytes u i) e;
+  scales = λ t lt i here.
+      stands.scales is_ready.scaled i here
+      ∙ ap (λ s. scale_by l.task (band_of l bytes) s i) (sym (is_ready.here (start + l.first + t) (omega arith) (omega arith)));
+}
+
+-- ---- what a piece leaves
+
+-- the next spectra are levelled
+pub record MakesSpectra (l : Levelling) (count : ℕ) (fractions piece : List ℕ) : Type 0 where
+  pub few : l.first + count ≤ l.last
+  pub levels : LevelsSpectra l.task.format l.task.plan l.held l.gains l.bases l.lifts l.first count l.fractions fractions
+      [] piece
+
+module _ (l : Levelling) (count : ℕ) (fractions piece : List ℕ) (range : FormatInRange l.task.format)
+    (some : 0 < l.task.plan.spectra) (next : 0 < pending l) (makes : MakesSpectra l count fractions piece)
+    (bytes out : List ℕ) (start stretch : ℕ) (stands : StandsFor l bytes start stretch)
+    (is_out : out ≡ first_levels l.task (band_of l bytes) (start + l.first)) where
+  made : AreLevelled l.task (band_of l bytes) (start + l.first) count fractions [] piece
+  made = makes.levels l.task.masked (band_of l bytes) (start + l.first)
+      (held_spectra l bytes start stretch count range stands (ready l bytes start stretch range some next stands) makes.few)
+      stands.place.carried
+
+  out_more : (n : ℕ) → n ≡ start + l.first + count → out ++ piece ≡ first_levels l.task (band_of l bytes) n
+  out_more n e =
+      ap (λ xs. xs ++ piece) is_out
+      ∙ ap (λ xs. first_levels l.task (band_of l bytes) (start + l.first) ++ xs) made.written
+      ∙ sym (levels_behind l.task (band_of l bytes) (start + l.first) count)
+      ∙ ap (λ m. first_levels l.task (band_of l bytes) m) (sym e)
+
+  carried_more : (n : ℕ) → n ≡ start + l.first + count → (i : ℕ) → i < cells l.task.format
+      → slice_index fractions i ≡ fine_before l.task (band_of l bytes) i n % unit
+  carried_more n e i lt =
+      made.carried i lt ∙ ap (λ m. fine_before l.task (band_of l bytes) i m % unit) (sym e)
+
+-- nothing is held of all bytes
+dropped : (xs : List ℕ) → drop (length xs) xs ≡ []
+dropped xs = drop_all (length xs) xs (omega arith)
+
+pub short_of : (n size : ℕ) → 0 < n → 0 < size → 0 < n * size
+short_of n size some wide = let h : 1 * 1 ≤ n * size = mul-le-mul some wide in omega (arith, h)
+
+-- some spectra of the stretch are left, or the data have ended
+pub gives_on : (l : Levelling) (count : ℕ) (fractions piece bytes out : List ℕ) → FormatInRange l.task.format
+    → 0 < l.task.plan.spectra → 0 < pending l → MakesSpectra l count fractions piece
+    → (l.has_ended ≡ false → l.first + count < l.last) → Levels l bytes out
+    → Levels (record l { fractions = fractions; piece = piece; first = l.first + count }) bytes (out ++ piece)
+gives_on l count fractions piece bytes out range some next makes left (start, stretch, stands, is_out) =
+    let few = makes.few in (
+      start,
+      stretch,
+      record {
+        place = record {
+          size = stands.place.size;
+          held = stands.place.held;
+          carried = carried_more l count fractions piece range some next makes bytes out start stretch stands is_out
+              (start + (l.first + count)) (omega arith);
+        };
+        order = omega arith;
+        scales = stands.scales;
+        stage = elim stands.stage [
+          | inl waits ↦ let e = waits.last in absurd (omega arith)
+          | inr other ↦ elim other [
+            | inl whole ↦ inr (inl record {
+              goes_on = whole.goes_on;
+              last = whole.last;
+              some = left whole.goes_on;
+              long = whole.long;
+              scaled = whole.scaled;
+              begins = whole.begins;
+            })
+            | inr ends ↦ inr (inr record {
+              ended = ends.ended;
+              last = ends.last;
+              scaled = ends.scaled;
+              here = ends.here;
+            })
+          ]
+        ];
+      },
+      out_more l count fractions piece range some next makes bytes out start stretch stands is_out
+          (start + (l.first + count)) (omega arith),
+    )
+
+-- a stretch is over: the next one begins
+pub gives_last : (l : Levelling) (count : ℕ) (fractions piece bytes out : List ℕ) → FormatInRange l.task.format
+    → 0 < l.task.plan.spectra → 0 < pending l → MakesSpectra l count fractions piece
+    → l.has_ended ≡ false → l.first + count ≡ l.last → Levels l bytes out
+    → Levels (record l { fractions = fractions; piece = piece; held = []; first = 0; last = 0 }) bytes (out ++ piece)
+gives_last l count fractions piece bytes out range some next makes goes_on all (start, stretch, stands, is_out) =
+    elim stands.stage [
+      | inl waits ↦ let e = waits.last in absurd (omega arith)
+      | inr other ↦ elim other [
+        | inr ends ↦ let e : true ≡ false = sym ends.ended ∙ goes_on in absurd (cc)
+        | inl whole ↦
+            let n = l.task.plan.spectra in
+            let sb = spectrum_bytes l.task.format in
+            let size = stands.place.size in
+            let long = whole.long in
+            let last = whole.last in
+            let is_start = whole.begins in
+            let next_start : (start + n) * sb ≡ length bytes = omega arith in (
+              start + n,
+              stretch,
+              record {
+                place = record {
+                  size = omega arith;
+                  held = sym (ap (λ m. drop m bytes) next_start ∙ dropped bytes);
+                  carried = carried_more l count fractions piece range some next makes bytes out start stretch stands is_out
+                      (start + n + 0) (omega arith);
+                };
+                order = omega arith;
+                scales = stands.scales;
+                stage = inl record {
+                  goes_on = goes_on;
+                  first = refl;
+                  last = refl;
+                  short = short_of n sb some (some_bytes l.task.format range);
+                  scaled = λ is_scaled. omega arith;
+                  begins = λ not_scaled. let e : true ≡ false = sym whole.scaled ∙ not_scaled in absurd (cc);
+                };
+              },
+              out_more l count fractions piece range some next makes bytes out start stretch stands is_out
+                  (start + n + 0) (omega arith),
+            )
+      ]
+    ]

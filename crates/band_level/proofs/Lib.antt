@@ -1,0 +1,16 @@
+pub mod Fills
+pub mod Ranges
+pub mod Values
+pub mod Columns
+pub mod Roots
+pub mod Scales
+pub mod Measured
+pub mod SpectraLevelled
+pub mod Shifts
+pub mod Agreeing
+pub mod Standing
+pub mod Giving
+pub mod Ending
+pub mod Written
+pub mod Stepping
+pub mod Means

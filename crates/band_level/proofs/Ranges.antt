@@ -1,0 +1,42 @@
+-- Sums over a range of numbers.
+use Rattle.std.proofs.Common.{◌≡◌, ℕ, ◌+◌, ◌<◌, ◌≤◌, zero, suc, Bool, true, false, cond, List, [], ◌∷◌, ◌++◌, length, map, sym, ◌∙◌, ap, refl, arith, length-append}
+use Rattle.std.specs.List.{range_with_len, sum_by, filter}
+use Rattle.std.proofs.lemmas.List.Sums.{sum-map, sum_by-append, sum_by-cons}
+use Rattle.std.proofs.lemmas.List.FromFn.{sum_by-map-range_with_len_more, filter_of_map_range_with_len_more}
+
+-- one number more
+pub sum_range_more_from : (f : ℕ → ℕ) (a n j : ℕ) → a + n ≡ j
+    → sum_by f (range_with_len a (n + 1)) ≡ sum_by f (range_with_len a n) + f j
+sum_range_more_from f a n j e =
+    sym (sum-map f (range_with_len a (n + 1)))
+    ∙ sum_by-map-range_with_len_more (λ (x : ℕ). x) f a n j e
+    ∙ ap (λ s. s + f j) (sum-map f (range_with_len a n))
+
+pub sum_range_more : (f : ℕ → ℕ) (n : ℕ)
+    → sum_by f (range_with_len 0 (n + 1)) ≡ sum_by f (range_with_len 0 n) + f n
+sum_range_more f n = sum_range_more_from f 0 n n (omega arith)
+
+-- a value more, if it is counted
+sum_if : (g : ℕ → ℕ) (b : Bool) (x : ℕ) → sum_by g (cond b (x ∷ []) []) ≡ cond b (g x) 0
+sum_if g true x = grind (arith, sum_by-cons {X = ℕ})
+sum_if g false x = refl
+
+length_if : (b : Bool) (x : ℕ) → length (cond b (x ∷ []) []) ≡ cond b 1 0
+length_if true x = refl
+length_if false x = refl
+
+pub filtered_sum_more : (g f : ℕ → ℕ) (p : ℕ → Bool) (n : ℕ)
+    → sum_by g (filter p (map f (range_with_len 0 (n + 1))))
+    ≡ sum_by g (filter p (map f (range_with_len 0 n))) + cond (p (f n)) (g (f n)) 0
+filtered_sum_more g f p n =
+    ap (sum_by g) (filter_of_map_range_with_len_more p f 0 n n (omega arith))
+    ∙ sum_by-append g (filter p (map f (range_with_len 0 n))) (cond (p (f n)) (f n ∷ []) [])
+    ∙ ap (λ s. sum_by g (filter p (map f (range_with_len 0 n))) + s) (sum_if g (p (f n)) (f n))
+
+pub filtered_length_more : (f : ℕ → ℕ) (p : ℕ → Bool) (n : ℕ)
+    → length (filter p (map f (range_with_len 0 (n + 1))))
+    ≡ length (filter p (map f (range_with_len 0 n))) + cond (p (f n)) 1 0
+filtered_length_more f p n =
+    ap length (filter_of_map_range_with_len_more p f 0 n n (omega arith))
+    ∙ length-append (filter p (map f (range_with_len 0 n))) (cond (p (f n)) (f n ∷ []) [])
+    ∙ ap (λ s. length (filter p (map f (range_with_len 0 n))) + s) (length_if (p (f n)) (f n))

@@ -1,0 +1,47 @@
+-- How large the numbers of a scale are, and how scales are set.
+use Rattle.std.proofs.Common.{◌≡◌, ◌≢◌, ℕ, ◌+◌, ◌-◌, ◌*◌, ◌/◌, ◌<◌, ◌≤◌, List, length, set, slice_index, ◌∙◌, ap, arith, get_or-set_other, get_or-set_same}
+use Rattle.std.proofs.Math.Nat.{mul-le-mul, mul-le-mul_right, mul-div-le, div-le_of_le-mul}
+use Rattle.band_level.specs.declared.scale.Scale.{Scale as ScaleHeld}
+use Rattle.band_level.specs.Scales.{Scale, most_gain}
+use Rattle.band_level.specs.Rows.{scale_held}
+use Rattle.band_level.specs.Sizes.{IsScaleOf}
+
+abbrev pub scale_with : ℕ → ℕ → ℕ → Scale
+scale_with gain base lift = record { gain = gain; base = base; lift = lift }
+
+-- the mean of the values, as the greatest gain has it
+pub lift_most : (gain total count : ℕ) → gain ≤ most_gain → total ≤ count * 4194303
+    → gain * total / (count * 1048576) + 1 ≤ 4398046511104
+lift_most gain total count few small =
+    let part : gain * total ≤ most_gain * (count * 4194303) = mul-le-mul few small in
+    let quotient : gain * total / (count * 1048576) ≤ 4398045462528 = div-le_of_le-mul (count * 1048576) (omega arith) in
+    omega arith
+
+-- what is left of the mean of the plan and of a lift that was rounded up
+pub base_most : (mean count part : ℕ) → mean ≤ 65535000
+    → (mean * count * 1048576 / 1000 + count * 1048576 * (part / (count * 1048576) + 1) - part) / count ≤ 68719476736
+base_most mean count part small =
+    let below : count * 1048576 * (part / (count * 1048576)) ≤ part = mul-div-le part (count * 1048576) in
+    let product : mean * count ≤ 65535000 * count = mul-le-mul_right count small in
+    let most : mean * count * 1048576 / 1000 ≤ 65535 * (count * 1048576) = div-le_of_le-mul 1000 (omega arith) in
+    div-le_of_le-mul count (omega arith)
+
+-- ---- scales that are set
+
+pub scales_same : (a b c d e f : ℕ) → a ≡ d → b ≡ e → c ≡ f
+    → scale_with a b c ≡ scale_with d e f
+scales_same a b c d e f x y z = ap (λ v. scale_with v b c) x ∙ ap (λ v. scale_with d v c) y ∙ ap (λ v. scale_with d e v) z
+
+pub set_here : (gains bases lifts : List ℕ) (i gain base lift : ℕ) → i < length gains → i < length bases → i < length lifts
+    → scale_held (set gains i gain) (set bases i base) (set lifts i lift) i ≡ scale_with gain base lift
+set_here gains bases lifts i gain base lift g b l =
+    scales_same _ _ _ gain base lift (rw get_or-set_same) (rw get_or-set_same) (rw get_or-set_same)
+
+pub set_beside : (gains bases lifts : List ℕ) (i j gain base lift : ℕ) → j ≢ i
+    → scale_held (set gains i gain) (set bases i base) (set lifts i lift) j ≡ scale_held gains bases lifts j
+set_beside gains bases lifts i j gain base lift ne =
+    scales_same _ _ _ (slice_index gains j) (slice_index bases j) (slice_index lifts j)
+    (rw get_or-set_other) (rw get_or-set_other) (rw get_or-set_other)
+
+pub is_scale : (s : ScaleHeld) (t : Scale) → IsScaleOf s t → scale_with s.gain s.base s.lift ≡ t
+is_scale s t is = scales_same s.gain s.base s.lift t.gain t.base t.lift is.gain is.base is.lift

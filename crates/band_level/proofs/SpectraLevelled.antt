@@ -1,0 +1,165 @@
+-- A spectrum that is levelled, and one more.
+use Rattle.std.proofs.Common.{◌≡◌, ℕ, zero, suc, ◌+◌, ◌-◌, ◌*◌, ◌/◌, ◌%◌, ◌<◌, ◌≤◌, ◌++◌, min, List, [], ◌∷◌, length, take, map, slice_index, refl, sym, ◌∙◌, ap, subst, Bool, append_assoc, append-nil, arith}
+use Rattle.std.specs.List.{range_with_len, flat_map}
+use Rattle.std.proofs.lemmas.List.FromFn.{fill_by_all, length-map-range_with_len}
+use Rattle.std.proofs.lemmas.List.Concat.{flat_map-append}
+use Rattle.psr_base.proofs.Ranges.{flat_map_range_more}
+use Rattle.band_level.specs.declared.format.Format.{Format}
+use Rattle.band_level.specs.declared.plan.Plan.{Plan}
+use Rattle.band_level.specs.Values.{Band, cells, cell_value}
+use Rattle.band_level.specs.Scales.{Scale, unit}
+use Rattle.band_level.specs.Levelled.{Task, scale_at, fine, fine_before, whole, level, value_bytes, spectrum_levels}
+use Rattle.band_level.specs.Rows.{LevelsRow, HoldScales, scale_held, units_at}
+use Rattle.band_level.specs.Spectra.{AreHeld, AreLevelled, Carried, LevelsSpectra, task_of}
+use Rattle.band_level.proofs.Ranges.{sum_range_more}
+
+-- what all spectra before have, and one more
+fine_more : (k : Task) (b : Band) (i t : ℕ) → fine_before k b i (t + 1) ≡ fine_before k b i t + fine k b i t
+unfolding fine_before
+fine_more k b i t = sum_range_more (fine k b i) t
+
+abbrev scale_held' : ℕ → ℕ → ℕ → Scale
+scale_held' gain base lift = record { gain = gain; base = base; lift = lift }
+
+fine_is : (k : Task) (b : Band) (i t gain base lift x : ℕ)
+    → scale_held' gain base lift ≡ scale_at k b t i → x ≡ b.value t i → base + gain * x ≡ fine k b i t
+unfolding fine
+fine_is k b i t gain base lift x scale is =
+    ap (λ (s : Scale). s.base + s.gain * x) scale
+    ∙ ap (λ y. (scale_at k b t i).base + (scale_at k b t i).gain * y) is
+
+-- the fraction of a sum, and its whole part
+carried_on : (before here next units fraction : ℕ) → next ≡ before + here → fraction ≡ before % 1048576
+    → units ≡ here + fraction → (units % 1048576 ≡ next % 1048576) × (units / 1048576 ≡ next / 1048576 - before / 1048576)
+carried_on before here next units fraction is carried sum = (omega arith, omega arith)
+
+module _ (k : Task) (b : Band) (t : ℕ) (row gains bases lifts fractions levels fractions' : List ℕ)
+    (long : length row ≡ cells k.format)
+    (levelled : LevelsRow k.plan.most row gains bases lifts fractions levels fractions')
+    (values : (i : ℕ) → i < cells k.format → slice_index row i ≡ b.value t i)
+    (scales : HoldScales (cells k.format) (scale_at k b t) gains bases lifts)
+    (carried : Carried k b t fractions) where
+  here : (i : ℕ) → i < cells k.format
+      → (units_at row gains bases fractions i % unit ≡ fine_before k b i (t + 1) % unit)
+      × (units_at row gains bases fractions i / unit ≡ whole k b i t)
+  here i lt = carried_on (fine_before k b i t) (fine k b i t) (fine_before k b i (t + 1)) _ _ (fine_more k b i t)
+      (carried i lt)
+      (ap (λ v. v + slice_index fractions i) (fine_is k b i t _ _ _ _ (scales i lt) (values i lt)))
+
+  pub spectrum_carried : Carried k b (t + 1) fractions'
+  spectrum_carried i lt = levelled.fraction i (omega (arith, long)) ∙ (here i lt).0
+
+  pub spectrum_level : (i : ℕ) → i < cells k.format → slice_index levels i ≡ level k b i t
+  spectrum_level i lt =
+      levelled.level i (omega (arith, long))
+      ∙ ap (λ v. min k.plan.most (v - slice_index lifts i)) (here i lt).1
+      ∙ ap (λ (s : Scale). min k.plan.most (whole k b i t - s.lift)) (scales i lt)
+
+flat_map_of_map : (f : ℕ → List ℕ) (g : ℕ → ℕ) (a n : ℕ)
+    → flat_map f (map g (range_with_len a n)) ≡ flat_map (λ i. f (g i)) (range_with_len a n)
+flat_map_of_map f g a zero = refl
+flat_map_of_map f g a (suc n) = ap (λ ys. f (g a) ++ ys) (flat_map_of_map f g (a + 1) n)
+
+-- a map over a range, by its values
+flat_map_same : (f : ℕ → List ℕ) (g : ℕ → ℕ) (n : ℕ) (xs : List ℕ) → length xs ≡ n
+    → ((i : ℕ) → i < n → slice_index xs i ≡ g i)
+    → flat_map f xs ≡ flat_map (λ i. f (g i)) (range_with_len 0 n)
+flat_map_same f g n xs long same =
+    ap (flat_map f) (fill_by_all g xs n 0 long same) ∙ flat_map_of_map f g 0 n
+
+pub spectrum_written : (k : Task) (b : Band) (t : ℕ) (levels : List ℕ) → length levels ≡ cells k.format
+    → ((i : ℕ) → i < cells k.format → slice_index levels i ≡ level k b i t)
+    → flat_map (value_bytes k.plan.bits) levels ≡ spectrum_levels k b t
+unfolding spectrum_levels
+spectrum_written k b t levels long is =
+    flat_map_same (value_bytes k.plan.bits) (λ i. level k b i t) (cells k.format) levels long is
+
+-- one spectrum that is held
+pub one_levelled : (f : Format) (p : Plan) (held gains bases lifts row levels old new before after : List ℕ) (first : ℕ)
+    → length row ≡ cells f → length levels ≡ cells f
+    → LevelsRow p.most row gains bases lifts old levels new
+    → ((i : ℕ) → i < cells f → slice_index row i ≡ cell_value f held first i)
+    → after ≡ before ++ flat_map (value_bytes p.bits) levels
+    → LevelsSpectra f p held gains bases lifts first 1 old new before after
+one_levelled f p held gains bases lifts row levels old new before after first long levels_long levelled read wrote
+    masked b start is_held carried =
+    let k = task_of f p masked in
+    let at : first + 0 ≡ first = omega arith in
+    let on : start + 0 ≡ start = omega arith in
+    let values : (i : ℕ) → i < cells f → slice_index row i ≡ b.value start i =
+    λ i lt. read i lt ∙ sym (ap (λ j. cell_value f held j i) at) ∙ is_held.values 0 i (omega arith) lt
+    ∙ ap (λ t. b.value t i) on in
+    let scales : HoldScales (cells f) (scale_at k b start) gains bases lifts =
+    subst (λ (t : ℕ). HoldScales (cells f) (scale_at k b t) gains bases lifts) on (is_held.scales 0 (omega arith)) in
+    record {
+      carried = spectrum_carried k b start row gains bases lifts old levels new long levelled values scales carried;
+      written = wrote ∙ ap (λ xs. before ++ xs)
+          (spectrum_written k b start levels levels_long
+          (spectrum_level k b start row gains bases lifts old levels new long levelled values scales carried)
+          ∙ sym (append-nil (spectrum_levels k b start)));
+    }
+
+-- and one more behind others
+pub spectra_more : (f : Format) (p : Plan) (held gains bases lifts old mid new before middle after : List ℕ)
+    (first count at : ℕ) → at ≡ first + count
+    → LevelsSpectra f p held gains bases lifts first count old mid before middle
+    → LevelsSpectra f p held gains bases lifts at 1 mid new middle after
+    → LevelsSpectra f p held gains bases lifts first (count + 1) old new before after
+spectra_more f p held gains bases lifts old mid new before middle after first count at is_at so_far one
+    masked b start is_held carried =
+    let k = task_of f p masked in
+    let front : AreHeld k b start count held first gains bases lifts = record {
+      values = λ t i lt here. is_held.values t i (omega arith) here;
+      scales = λ t lt. is_held.scales t (omega arith);
+    } in
+    let last : AreHeld k b (start + count) 1 held at gains bases lifts = record {
+      values = λ t i lt here.
+          let from : at + t ≡ first + count = omega arith in
+          let to : start + count ≡ start + count + t = omega arith in
+          ap (λ j. cell_value f held j i) from ∙ is_held.values count i (omega arith) here
+          ∙ ap (λ u. b.value u i) to;
+      scales = λ t lt.
+          let to : start + count ≡ start + count + t = omega arith in
+          subst (λ (u : ℕ). HoldScales (cells f) (scale_at k b u) gains bases lifts) to (is_held.scales count (omega arith));
+    } in
+    let before_it = so_far masked b start front carried in
+    let it = one masked b (start + count) last before_it.carried in
+    let next : start + count + 1 ≡ start + (count + 1) = omega arith in
+    record {
+      carried = subst (λ (t : ℕ). Carried k b t new) next it.carried;
+      written = it.written
+          ∙ ap (λ xs. xs ++ flat_map (spectrum_levels k b) (range_with_len (start + count) 1)) before_it.written
+          ∙ append_assoc before (flat_map (spectrum_levels k b) (range_with_len start count)) _
+          ∙ ap (λ xs. before ++ (flat_map (spectrum_levels k b) (range_with_len start count) ++ xs))
+          (append-nil (spectrum_levels k b (start + count)))
+          ∙ ap (λ xs. before ++ xs) (sym (flat_map_range_more (spectrum_levels k b) start count (start + count) refl));
+    }
+
+-- none
+pub none_levelled : (f : Format) (p : Plan) (held gains bases lifts old before : List ℕ) (first : ℕ)
+    → LevelsSpectra f p held gains bases lifts first 0 old old before before
+none_levelled f p held gains bases lifts old before first masked b start is_held carried =
+    let k = task_of f p masked in
+    let on : start ≡ start + 0 = omega arith in
+    record {
+      carried = subst (λ (t : ℕ). Carried k b t old) on carried;
+      written = sym (append-nil before);
+    }
+
+-- the same for a part of what is written to
+pub spectra_next : (f : Format) (p : Plan) (held gains bases lifts old mid new before middle out : List ℕ)
+    (first count m n : ℕ) → m ≡ n
+    → LevelsSpectra f p held gains bases lifts first count old mid before middle
+    → LevelsSpectra f p held gains bases lifts (first + count) 1 mid new middle (take m out)
+    → LevelsSpectra f p held gains bases lifts first (count + 1) old new before (take n out)
+spectra_next f p held gains bases lifts old mid new before middle out first count m n same so_far one =
+    spectra_more f p held gains bases lifts old mid new before middle (take n out) first count (first + count) refl so_far
+    (subst (λ (j : ℕ). LevelsSpectra f p held gains bases lifts (first + count) 1 mid new middle (take j out)) same one)
+
+pub spectra_all : (f : Format) (p : Plan) (held gains bases lifts old new out : List ℕ)
+    (first t count m n : ℕ) → t ≡ count → m ≡ n
+    → LevelsSpectra f p held gains bases lifts first t old new [] (take m out)
+    → LevelsSpectra f p held gains bases lifts first count old new [] (take n out)
+spectra_all f p held gains bases lifts old new out first t count m n all same levels =
+    subst (λ (j : ℕ). LevelsSpectra f p held gains bases lifts first count old new [] (take j out)) same
+    (subst (λ (j : ℕ). LevelsSpectra f p held gains bases lifts first j old new [] (take m out)) all levels)

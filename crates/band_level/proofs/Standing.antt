@@ -1,0 +1,234 @@
+-- What a leveller stands for, from call to call.
+use Rattle.std.proofs.Common.{◌≡◌, ℕ, refl, ◌+◌, ◌-◌, ◌*◌, ◌/◌, ◌%◌, ◌<◌, ◌≤◌, ◌⊎◌, min, inl, inr, Bool, true, false, List, [], ◌∷◌, ◌++◌, length, map, drop, slice_index, ◌∙◌, sym, ap, subst, arith, length-append}
+use Rattle.std.specs.List.{range_with_len, flat_map, sum_by}
+use Rattle.std.proofs.Math.Nat.{mul-le-mul, mul-le-mul_right}
+use Rattle.std.proofs.lemmas.Nat.{le-div, div-mul-add, div-add-mod', mod_below}
+use Rattle.std.proofs.lemmas.List.{get_or_append_left, get_or-drop, drop-append-le}
+use Rattle.band_level.specs.declared.format.Format.{Format}
+use Rattle.band_level.specs.declared.plan.Plan.{Plan}
+use Rattle.band_level.specs.Ranges.{FormatInRange, PlanInRange}
+use Rattle.band_level.specs.Values.{Band, band, cells, spectrum_bytes, cell_value}
+use Rattle.band_level.specs.Moments.{fair_moments}
+use Rattle.band_level.specs.Columns.{column}
+use Rattle.band_level.specs.Scales.{scale_of, unit}
+use Rattle.band_level.specs.Rows.{HoldScales, scale_held}
+use Rattle.band_level.specs.Levelled.{Task, is_masked, stretch_values, scale_by, scale_at, stretch_for, fine_before, first_levels, spectrum_levels, levelled}
+use Rattle.band_level.specs.Spectra.{written_bytes}
+use Rattle.band_level.specs.Levelling.{Levelling, IsAt, StandsFor, Waits, IsWhole, Ends, Levels, band_of, pending}
+use Rattle.band_level.specs.Steps.{HeldScales}
+use Rattle.band_level.proofs.Shifts.{cell_shift}
+use Rattle.band_level.proofs.Agreeing.{Agree, before_agrees, levels_agree, scales_agree, maps_agree, own_stretch}
+
+-- ---- sizes
+
+pub product_some : (a b : ℕ) → 0 < a → 0 < b → 0 < a * b
+product_some a b x y = let h : 1 * 1 ≤ a * b = mul-le-mul x y in omega (arith, h)
+
+pub some_bytes : (f : Format) → FormatInRange f → 0 < spectrum_bytes f
+some_bytes f range =
+    let width : 0 < f.bits / 8 = elim range.bits [
+      | inl e ↦ omega arith
+      | inr e ↦ omega arith
+    ] in
+    let pols : 0 < f.polarisations = elim range.polarisations [
+      | inl e ↦ omega arith
+      | inr e ↦ omega arith
+    ] in
+    product_some f.average (cells f * (f.bits / 8)) range.some_average
+    (product_some (cells f) (f.bits / 8) (product_some f.channels f.polarisations range.some_channels pols) width)
+
+pub some_written : (f : Format) (p : Plan) → FormatInRange f → PlanInRange p → 0 < written_bytes f p
+some_written f p range plan =
+    let width : 0 < p.bits / 8 = elim plan.most [
+      | inl e ↦ let bits = e.0 in omega arith
+      | inr e ↦ let bits = e.0 in omega arith
+    ] in
+    let pols : 0 < f.polarisations = elim range.polarisations [
+      | inl e ↦ omega arith
+      | inr e ↦ omega arith
+    ] in
+    product_some (cells f) (p.bits / 8) (product_some f.channels f.polarisations range.some_channels pols) width
+
+-- ---- more bytes
+
+-- whole stretches stay as they are
+prefix_agrees : (k : Task) (bytes more : List ℕ) (stretches start : ℕ) → FormatInRange k.format → 0 < k.plan.spectra
+    → start ≡ stretches * k.plan.spectra → start * spectrum_bytes k.format ≤ length bytes
+    → Agree k (band k.format bytes) (band k.format (bytes ++ more)) stretches
+prefix_agrees k bytes more stretches start range some is_start fits =
+    let f = k.format in
+    let both = length-append bytes more in
+    let here : start ≤ length bytes / spectrum_bytes f = le-div start _ _ (some_bytes f range) fits in
+    let there : start ≤ length (bytes ++ more) / spectrum_bytes f =
+    le-div start _ _ (some_bytes f range) (omega arith) in
+    record {
+      some = some;
+      enough = omega arith;
+      others = omega arith;
+      values = λ t i lt inside.
+          let part : (t + 1) * spectrum_bytes f ≤ start * spectrum_bytes f = mul-le-mul_right _ (omega arith) in
+          cell_shift f bytes (bytes ++ more) 0 (length bytes) t t i range
+          (λ k low. let e : k ≡ 0 + k = omega arith in
+          sym (get_or_append_left bytes more 0 k low) ∙ ap (λ j. slice_index (bytes ++ more) j) e)
+          (omega arith) (omega arith) inside;
+    }
+
+-- what is held of the bytes
+pub held_cells : (l : Levelling) (bytes : List ℕ) (start t i : ℕ) → FormatInRange l.task.format → IsAt l bytes start
+    → (t + 1) * spectrum_bytes l.task.format ≤ length l.held → i < cells l.task.format
+    → cell_value l.task.format l.held t i ≡ cell_value l.task.format bytes (start + t) i
+held_cells l bytes start t i range place fits here =
+    cell_shift l.task.format l.held bytes (start * spectrum_bytes l.task.format) (length l.held) t (start + t) i range
+    (λ k low. ap (λ xs. slice_index xs k) place.held ∙ get_or-drop (start * spectrum_bytes l.task.format) bytes k 0)
+    (omega arith) fits here
+
+-- bytes that are held behind the others
+at_more : (l : Levelling) (bytes piece : List ℕ) (start stretches : ℕ) → FormatInRange l.task.format
+    → 0 < l.task.plan.spectra → start ≡ stretches * l.task.plan.spectra → l.first ≡ 0 → IsAt l bytes start
+    → IsAt (record l { held = l.held ++ piece }) (bytes ++ piece) start
+at_more l bytes piece start stretches range some is_start first place =
+    let size = place.size in
+    let agree = prefix_agrees l.task bytes piece stretches start range some is_start (omega arith) in
+    record {
+      size = omega (arith, length-append bytes piece, length-append l.held piece);
+      held = ap (λ xs. xs ++ piece) place.held ∙ sym (drop-append-le _ bytes piece (omega arith));
+      carried = λ i lt. place.carried i lt
+          ∙ ap (λ x. x % unit)
+          (before_agrees l.task (band_of l bytes) (band_of l (bytes ++ piece)) stretches agree (start + l.first) i
+          (omega arith) lt);
+    }
+
+levels_more : (l : Levelling) (bytes piece : List ℕ) (start stretches : ℕ) → FormatInRange l.task.format
+    → 0 < l.task.plan.spectra → start ≡ stretches * l.task.plan.spectra → l.first ≡ 0 → IsAt l bytes start
+    → first_levels l.task (band_of l bytes) (start + l.first)
+    ≡ first_levels l.task (band_of l (bytes ++ piece)) (start + l.first)
+levels_more l bytes piece start stretches range some is_start first place =
+    let size = place.size in
+    let agree = prefix_agrees l.task bytes piece stretches start range some is_start (omega arith) in
+    levels_agree l.task (band_of l bytes) (band_of l (bytes ++ piece)) stretches agree (start + l.first) (omega arith)
+
+-- ---- stages
+
+-- which stage it is
+pub is_waiting : (l : Levelling) (bytes : List ℕ) (start stretch : ℕ) → StandsFor l bytes start stretch
+    → l.has_ended ≡ false → pending l ≡ 0 → Waits l start stretch
+is_waiting l bytes start stretch stands goes_on none = elim stands.stage [
+  | inl waits ↦ waits
+  | inr other ↦ elim other [
+    | inl whole ↦ let some = whole.some in absurd (omega arith)
+    | inr ends ↦ let e : true ≡ false = sym ends.ended ∙ goes_on in absurd (cc)
+  ]
+]
+
+-- the stretch that a waiting leveller begins with
+begins_on : (l : Levelling) (start stretch : ℕ) (b : Bool) → l.is_scaled ≡ b → Waits l start stretch
+    → (q : ℕ) × (start ≡ q * l.task.plan.spectra)
+begins_on l start stretch true e waits = (stretch + 1, waits.scaled e)
+begins_on l start stretch false e waits = (0, let h = waits.begins e in omega arith)
+
+begins : (l : Levelling) (start stretch : ℕ) → Waits l start stretch → (q : ℕ) × (start ≡ q * l.task.plan.spectra)
+begins l start stretch waits = begins_on l start stretch l.is_scaled refl waits
+
+-- ---- bytes that leave the stretch short
+
+pub takes_short : (l : Levelling) (bytes piece out : List ℕ) → FormatInRange l.task.format → 0 < l.task.plan.spectra
+    → l.has_ended ≡ false → pending l ≡ 0
+    → length (l.held ++ piece) < l.task.plan.spectra * spectrum_bytes l.task.format
+    → Levels l bytes out → Levels (record l { held = l.held ++ piece }) (bytes ++ piece) out
+takes_short l bytes piece out range some goes_on none short (start, stretch, stands, is_out) =
+    let waits = is_waiting l bytes start stretch stands goes_on none in
+    let on = begins l start stretch waits in
+    let size = stands.place.size in (
+      start,
+      stretch,
+      record {
+        place = at_more l bytes piece start on.0 range some on.1 waits.first stands.place;
+        order = stands.order;
+        scales = λ is_scaled i lt.
+            let next = waits.scaled is_scaled in
+            let agree = prefix_agrees l.task bytes piece (stretch + 1) start range some next (omega arith) in
+            stands.scales is_scaled i lt
+            ∙ scales_agree l.task (band_of l bytes) (band_of l (bytes ++ piece)) (stretch + 1) agree stretch i
+            (omega arith) lt;
+        stage = inl record {
+          goes_on = goes_on;
+          first = waits.first;
+          last = waits.last;
+          short = short;
+          scaled = waits.scaled;
+          begins = waits.begins;
+        };
+      },
+      is_out ∙ levels_more l bytes piece start on.0 range some on.1 waits.first stands.place,
+    )
+
+-- ---- bytes that fill it
+
+-- the scales of what is held are those of a stretch, where the first spectra that are held are its own
+pub held_scales : (l : Levelling) (bytes : List ℕ) (start stretch count : ℕ) (gains bases lifts : List ℕ)
+    → FormatInRange l.task.format → IsAt l bytes start → start ≡ stretch * l.task.plan.spectra
+    → count * spectrum_bytes l.task.format ≤ length l.held
+    → min l.task.plan.spectra (band_of l bytes).spectra ≡ count
+    → HeldScales l l.held count gains bases lifts
+    → HoldScales (cells l.task.format) (scale_by l.task (band_of l bytes) stretch) gains bases lifts
+held_scales l bytes start stretch count gains bases lifts range place is_start fits is_count scales i lt =
+    let f = l.task.format in
+    let n = l.task.plan.spectra in
+    let values : column (cell_value f l.held) count i ≡ stretch_values l.task (band_of l bytes) stretch i =
+    maps_agree (λ j. cell_value f l.held j i) (λ j. cell_value f bytes (stretch * n + j) i) 0 count
+    (λ j low high.
+    let part : (j + 1) * spectrum_bytes f ≤ count * spectrum_bytes f = mul-le-mul_right _ (omega arith) in
+    let e : start + j ≡ stretch * n + j = omega arith in
+    held_cells l bytes start j i range place (omega arith) lt ∙ ap (λ u. cell_value f bytes u i) e)
+    ∙ ap (λ m. map (λ j. cell_value f bytes (stretch * n + j) i) (range_with_len 0 m)) (sym is_count) in
+    scales i lt ∙ ap (λ xs. scale_of l.task.plan (is_masked l.task i) (fair_moments xs)) values
+
+-- with its scales a whole stretch is to be levelled
+abbrev pub with_stretch : Levelling → List ℕ → List ℕ → List ℕ → List ℕ → Levelling
+with_stretch l held gains bases lifts = record l {
+  held = held;
+  gains = gains;
+  bases = bases;
+  lifts = lifts;
+  is_scaled = true;
+  first = 0;
+  last = l.task.plan.spectra;
+}
+
+pub takes_whole : (l : Levelling) (bytes piece out gains bases lifts : List ℕ) → FormatInRange l.task.format
+    → 0 < l.task.plan.spectra → l.has_ended ≡ false → pending l ≡ 0
+    → length (l.held ++ piece) ≡ l.task.plan.spectra * spectrum_bytes l.task.format
+    → HeldScales l (l.held ++ piece) l.task.plan.spectra gains bases lifts
+    → Levels l bytes out → Levels (with_stretch l (l.held ++ piece) gains bases lifts) (bytes ++ piece) out
+takes_whole l bytes piece out gains bases lifts range some goes_on none long scales (start, stretch, stands, is_out) =
+    let waits = is_waiting l bytes start stretch stands goes_on none in
+    let on = begins l start stretch waits in
+    let place = at_more l bytes piece start on.0 range some on.1 waits.first stands.place in
+    let size = place.size in
+    let sb = spectrum_bytes l.task.format in
+    let all : start + l.task.plan.spectra ≤ length (bytes ++ piece) / sb =
+    le-div (start + l.task.plan.spectra) _ _ (some_bytes l.task.format range) (omega arith) in (
+      start,
+      on.0,
+      record {
+        place = record {
+          size = place.size;
+          held = place.held;
+          carried = λ i lt. place.carried i lt
+              ∙ ap (λ n. fine_before l.task (band_of l (bytes ++ piece)) i (start + n) % unit) waits.first;
+        };
+        order = omega arith;
+        scales = λ is_scaled. held_scales (record l { held = l.held ++ piece }) (bytes ++ piece) start on.0
+            l.task.plan.spectra gains bases lifts range place on.1 (omega arith) (omega arith) scales;
+        stage = inr (inl record {
+          goes_on = goes_on;
+          last = refl;
+          some = some;
+          long = long;
+          scaled = refl;
+          begins = on.1;
+        });
+      },
+      is_out ∙ levels_more l bytes piece start on.0 range some on.1 waits.first stands.place
+          ∙ ap (λ n. first_levels l.task (band_of l (bytes ++ piece)) (start + n)) waits.first,
+    )

@@ -1,0 +1,26 @@
+-- The values of data bytes: where they lie, and what neighbouring spectra add up to.
+use Rattle.std.proofs.Common.{◌≡◌, ℕ, ◌+◌, ◌*◌, ◌/◌, ◌<◌, ◌≤◌, List, sym, ◌∙◌, ap, arith}
+use Rattle.std.specs.List.{range_with_len, sum_by}
+use Rattle.std.proofs.Math.Nat.{mul-le-mul_right}
+use Rattle.band_level.specs.declared.format.Format.{Format}
+use Rattle.band_level.specs.Values.{cells, value_at}
+use Rattle.band_level.proofs.Ranges.{sum_range_more}
+
+-- a spectrum that was read lies within those that are added up with it
+pub read_inside : (t average k size limit : ℕ) → k < average → (t + 1) * (average * size) ≤ limit
+    → (t * average + k + 1) * size ≤ limit
+read_inside t average k size limit lt fits =
+    let part : (t * average + k + 1) * size ≤ (t + 1) * average * size = mul-le-mul_right size (omega arith) in
+    omega arith
+
+-- what the first k neighbouring spectra add up to
+abbrev pub part_value : Format → List ℕ → ℕ → ℕ → ℕ → ℕ
+part_value f bytes t i k =
+    sum_by (λ j. value_at f bytes ((t * f.average + j) * cells f + i)) (range_with_len 0 k)
+
+-- one spectrum more
+pub part_more : (f : Format) (bytes : List ℕ) (t i k a b : ℕ) → a ≡ part_value f bytes t i k
+    → b ≡ a + value_at f bytes ((t * f.average + k) * cells f + i) → b ≡ part_value f bytes t i (k + 1)
+part_more f bytes t i k a b is adds =
+    adds ∙ ap (λ s. s + value_at f bytes ((t * f.average + k) * cells f + i)) is
+    ∙ sym (sum_range_more (λ j. value_at f bytes ((t * f.average + j) * cells f + i)) k)

@@ -1,0 +1,84 @@
+use Rattle.std.proofs.Common.{◌≡◌, ℕ, refl, ◌+◌, ◌*◌, ◌/◌, ◌<◌, ◌≤◌, ◌^◌, inl, inr, max, length, ◌∙◌, ap, arith}
+use Rattle.std.proofs.Math.Nat.{mul-le-mul, mul-le-mul_right}
+use Rattle.band_level.specs.declared.format.Format.{Format}
+use Rattle.band_level.specs.declared.plan.Plan.{Plan}
+use Rattle.band_level.specs.Ranges.{FormatInRange, PlanInRange}
+use Rattle.band_level.specs.Values.{cells}
+use Rattle.band_level.specs.Spectra.{written_bytes}
+use Rattle.band_level.proofs.Standing.{some_written}
+use Rattle.band_level.proofs.Ending.{starts}
+use Rattle.band_level.proofs.Written.{zero_at, zero_long, zero_scales, piece_most, piece_least}
+use Rattle.band_level.proofs.leveller.Leveller.open.Goals as goal
+
+-- no spectrum is longer than this
+written_most : (f : Format) (p : Plan) → FormatInRange f → PlanInRange p → written_bytes f p ≤ 4096 * 2 * 2
+written_most f p range plan =
+    let width : p.bits / 8 ≤ 2 = elim plan.most [
+      | inl e ↦ let bits = e.0 in omega arith
+      | inr e ↦ let bits = e.0 in omega arith
+    ] in
+    let pols : f.polarisations ≤ 2 = elim range.polarisations [
+      | inl e ↦ omega arith
+      | inr e ↦ omega arith
+    ] in
+    mul-le-mul (mul-le-mul range.most_channels pols) width
+
+piece_fits : (f : Format) (p : Plan) (m : ℕ) → FormatInRange f → PlanInRange p
+    → m ≡ max (262144 / written_bytes f p) 1 → m * written_bytes f p < 2 ^ 64
+piece_fits f p m range plan is =
+    let same : m * written_bytes f p ≡ max (262144 / written_bytes f p) 1 * written_bytes f p =
+    ap (λ n. n * written_bytes f p) is in
+    omega (arith, piece_most 262144 (written_bytes f p), written_most f p range plan)
+
+pub overflow_mul-max : goal.overflow_mul-max
+overflow_mul-max c = record {
+  fits = piece_fits c.args.format c.args.plan c.max.result c.requires.format c.requires.plan c.max.ensures;
+}
+
+pub invariant_of-result : goal.invariant_of-result
+invariant_of-result c =
+    let n = cells c.args.format in
+    let some = c.requires.plan.some_spectra in
+    let least : written_bytes c.args.format c.args.plan ≤ c.max.result * written_bytes c.args.format c.args.plan =
+    let same : c.max.result * written_bytes c.args.format c.args.plan
+    ≡ max (262144 / written_bytes c.args.format c.args.plan) 1 * written_bytes c.args.format c.args.plan =
+    ap (λ m. m * written_bytes c.args.format c.args.plan) c.max.ensures in
+    omega (arith, piece_least 262144 (written_bytes c.args.format c.args.plan)) in
+    let piece = zero_long c.in_ok-bytes-2.field-0.items _ c.in_ok-bytes-2.ensures in
+    record {
+      task = record {
+        format = c.requires.format;
+        plan = c.requires.plan;
+        masked_long = ap length c.in_ok-marks.ensures ∙ c.requires.masked;
+      };
+      stretch = record {
+        spectrum_is = refl;
+        held_long = zero_long c.in_ok-bytes.field-0.items _ c.in_ok-bytes.ensures;
+        filled_in = omega arith;
+        order = omega arith;
+        inside = omega arith;
+        few = omega arith;
+      };
+      scales = zero_scales n _ _ _ c.in_ok-longs.ensures c.in_ok-longs-2.ensures c.in_ok-longs-3.ensures;
+      space = record {
+        row_long = zero_long c.in_ok-words.field-0.items n c.in_ok-words.ensures;
+        lows_long = zero_long c.in_ok-words-3.field-0.items n c.in_ok-words-3.ensures;
+        highs_long = zero_long c.in_ok-words-4.field-0.items n c.in_ok-words-4.ensures;
+        counts_long = zero_long c.in_ok-words-5.field-0.items n c.in_ok-words-5.ensures;
+        totals_long = zero_long c.in_ok-longs-5.field-0.items n c.in_ok-longs-5.ensures;
+        squares_long = zero_long c.in_ok-longs-6.field-0.items n c.in_ok-longs-6.ensures;
+      };
+      piece = record {
+        fractions_long = zero_long c.in_ok-longs-4.field-0.items n c.in_ok-longs-4.ensures;
+        carried = λ i. omega (arith, zero_at c.in_ok-longs-4.field-0.items n c.in_ok-longs-4.ensures i);
+        levels_long = zero_long c.in_ok-words-2.field-0.items n c.in_ok-words-2.ensures;
+        made_in = omega arith;
+        room = omega (arith, least, piece);
+      };
+    }
+
+pub returns-clause-nothing : goal.returns-clause-nothing
+returns-clause-nothing c =
+    let some = c.requires.plan.some_spectra in
+    starts _ c.requires.format (omega arith) refl refl refl refl refl
+    (zero_at c.in_ok-longs-4.field-0.items (cells c.args.format) c.in_ok-longs-4.ensures)

@@ -1,0 +1,8 @@
+use Rattle.std.proofs.Common.{◌≡◌, ◌+◌, ◌++◌, take}
+use Rattle.std.specs.List.{flat_map}
+use Rattle.band_level.specs.Levelled.{value_bytes}
+use Rattle.band_level.proofs.levels.write_bytes.Given as goal
+
+abbrev pub invariant-loop-i : goal.invariant-loop-i
+invariant-loop-i l =
+    take (l.at + l.i) l.out ≡ take l.at l.initial.out ++ flat_map (value_bytes 8) (take l.i l.levels)

@@ -1,0 +1,13 @@
+pub mod Values
+pub mod Moments
+pub mod Scales
+pub mod Levelled
+pub mod Ranges
+pub mod Levelling
+pub mod Steps
+pub mod Laws
+pub mod Columns
+pub mod Sizes
+pub mod Rows
+pub mod Sound
+pub mod Spectra

@@ -1,0 +1,34 @@
+-- What always holds of a leveller.
+-- Source: this project's choice.
+use Rattle.std.specs.Prelude.{ℕ, ◌≡◌, ◌+◌, ◌*◌, ◌/◌, ◌<◌, ◌≤◌, Bool, List, length, slice_index}
+use Rattle.band_level.specs.declared.format.Format.{Format}
+use Rattle.band_level.specs.declared.plan.Plan.{Plan}
+use Rattle.band_level.specs.Values.{cells, spectrum_bytes}
+use Rattle.band_level.specs.Scales.{unit}
+use Rattle.band_level.specs.Rows.{AreLong, ScalesFit}
+use Rattle.band_level.specs.Spectra.{written_bytes}
+use Rattle.band_level.specs.Ranges.{FormatInRange, PlanInRange}
+
+-- the bytes of a stretch, and which of its spectra are to be levelled
+pub record StretchFits (f : Format) (p : Plan) (spectrum : ℕ) (held : List ℕ)
+    (filled first last : ℕ) : Type 0 where
+  pub spectrum_is : spectrum ≡ spectrum_bytes f
+  pub held_long : length held ≡ p.spectra * spectrum
+  pub filled_in : filled ≤ length held
+  pub order : first ≤ last
+  pub inside : last * spectrum ≤ filled
+  pub few : last ≤ p.spectra
+
+-- what was carried on, and room for levels and their bytes
+pub record PieceFits (f : Format) (p : Plan) (fractions levels piece : List ℕ) (made : ℕ)
+    : Type 0 where
+  pub fractions_long : length fractions ≡ cells f
+  pub carried : (i : ℕ) → slice_index fractions i < unit
+  pub levels_long : length levels ≡ cells f
+  pub made_in : made ≤ length piece
+  pub room : written_bytes f p ≤ length piece
+
+pub record TaskFits (f : Format) (p : Plan) (masked : List Bool) : Type 0 where
+  pub format : FormatInRange f
+  pub plan : PlanInRange p
+  pub masked_long : length masked ≡ f.channels

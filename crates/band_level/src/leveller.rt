@@ -1,0 +1,374 @@
+// Bytes that are fed, as levelled bytes.
+ghost use Rattle.std.specs.Prelude.{◌≡◌, ◌+◌, ◌*◌, ◌/◌, ◌<◌, ◌≤◌, ◌⊎◌, ◌++◌, Bool, List, [], true, false, length, replicate, take, IfOk};
+ghost use Rattle.band_level.specs.Values.{cells, spectrum_bytes};
+ghost use Rattle.band_level.specs.Ranges.{FormatInRange, PlanInRange};
+ghost use Rattle.band_level.specs.Levelling.{Levelling, Levels, Takes, Gives, EndsAs, IsDone, pending};
+ghost use Rattle.band_level.specs.Steps.{Begins, MakesPiece, Measures, stretch_bytes};
+ghost use Rattle.band_level.specs.Rows.{AreLong, ScalesFit};
+ghost use Rattle.band_level.specs.Sound.{PieceFits, StretchFits, TaskFits};
+
+use crate::format::Format;
+use crate::measure::measure;
+use crate::plan::Plan;
+use crate::spectra::level_spectra;
+use psr_base::Memory;
+use std::alloc::Global;
+use std::marker::Model;
+
+// About how many bytes are levelled at a time.
+const PIECE: usize = 262144;
+
+/// Data bytes that are fed in pieces and come out levelled. Once a stretch is whole its spectra are levelled, some at a
+/// time; once the data have ended, what is left of them is.
+#[derive(Drop)]
+pub struct Leveller {
+    format: Format,
+    plan: Plan,
+    // the marks of the channels, in the order of the file
+    masked: Vec<bool>,
+    // how many bytes a spectrum has
+    spectrum: usize,
+    // the bytes of a stretch, of which so many are filled
+    held: Vec<u8>,
+    filled: usize,
+    // which spectra of the stretch are to be levelled next
+    first: usize,
+    last: usize,
+    is_scaled: bool,
+    has_ended: bool,
+    gains: Vec<u64>,
+    bases: Vec<u64>,
+    lifts: Vec<u64>,
+    fractions: Vec<u64>,
+    // working space: a row of values, its levels, and the sums of each cell with its bounds
+    row: Vec<u32>,
+    levels: Vec<u32>,
+    lows: Vec<u32>,
+    highs: Vec<u32>,
+    counts: Vec<u32>,
+    totals: Vec<u64>,
+    squares: Vec<u64>,
+    // room for levelled bytes, of which so many are filled
+    piece: Vec<u8>,
+    made: usize,
+}
+
+impl Model for Leveller {
+    ghost Value = { Levelling };
+
+    ghost view = { λ l. record {
+      task = record { format = l.format; plan = l.plan; masked = l.masked.items };
+      held = take l.filled l.held.items;
+      first = l.first;
+      last = l.last;
+      is_scaled = l.is_scaled;
+      has_ended = l.has_ended;
+      gains = l.gains.items;
+      bases = l.bases.items;
+      lifts = l.lifts.items;
+      fractions = l.fractions.items;
+      piece = take l.made l.piece.items;
+    } };
+
+    ghost invariant = { λ l. record {
+      task : TaskFits l.format l.plan l.masked.items;
+      stretch : StretchFits l.format l.plan l.spectrum l.held.items l.filled l.first l.last;
+      scales : ScalesFit (cells l.format) l.gains.items l.bases.items l.lifts.items;
+      space : AreLong (cells l.format) l.row.items l.lows.items l.highs.items l.counts.items
+          l.totals.items l.squares.items;
+      piece : PieceFits l.format l.plan l.fractions.items l.levels.items l.piece.items l.made;
+    } };
+}
+
+impl Leveller {
+    /// Takes the memory for a stretch, and for some levelled bytes. The marks say which channels are masked, in the order
+    /// of the file.
+    pub fn open(
+        alloc: Global,
+        format: Format,
+        plan: Plan,
+        masked: &[bool],
+    ) -> Result<Leveller, Memory>
+        requires format { FormatInRange format }
+        requires plan { PlanInRange plan }
+        requires masked { length masked.now ≡ format.channels }
+        ensures task { IfOk result (λ l.
+            l.task ≡ record { format = format; plan = plan; masked = masked.now }) }
+        ensures goes_on { IfOk result (λ l. l.has_ended ≡ false) }
+        ensures nothing { IfOk result (λ l. Levels l [] []) }
+    {
+        let cells = (format.channels * format.polarisations) as usize;
+        let spectrum = format.average as usize * (cells * (format.bits as usize / 8));
+        let written = cells * (plan.bits as usize / 8);
+        Ok(Leveller {
+            format,
+            plan,
+            masked: marks(alloc, masked)?,
+            spectrum,
+            held: bytes(alloc, plan.spectra as usize * spectrum)?,
+            filled: 0,
+            first: 0,
+            last: 0,
+            is_scaled: false,
+            has_ended: false,
+            gains: longs(alloc, cells)?,
+            bases: longs(alloc, cells)?,
+            lifts: longs(alloc, cells)?,
+            fractions: longs(alloc, cells)?,
+            row: words(alloc, cells)?,
+            levels: words(alloc, cells)?,
+            lows: words(alloc, cells)?,
+            highs: words(alloc, cells)?,
+            counts: words(alloc, cells)?,
+            totals: longs(alloc, cells)?,
+            squares: longs(alloc, cells)?,
+            piece: bytes(alloc, (PIECE / written).max(1) * written)?,
+            made: 0,
+        })
+    }
+
+    // What always holds, for callers.
+    fn bounds(&self)
+        ensures format { FormatInRange self.now.task.format }
+        ensures spectra { 0 < self.now.task.plan.spectra }
+        ensures few { self.now.task.plan.spectra ≤ 1048576 }
+        ensures held { length self.now.held ≤ stretch_bytes self.now.task }
+        ensures order { self.now.first ≤ self.now.last }
+    {
+        let _ = &self.format;
+    }
+
+    /// Takes bytes until the stretch is whole, and says how many it took: none where spectra are to be levelled, or
+    /// the data have ended.
+    pub fn feed(&mut self, bytes: &[u8]) -> usize
+        ensures within { result ≤ length bytes.now }
+        ensures takes { Takes self.old self.new (take result bytes.now) }
+        ensures rest { self.old.has_ended ≡ false → result < length bytes.now
+            → 0 < pending self.new }
+    {
+        self.bounds();
+        if self.first < self.last || self.has_ended {
+            return 0;
+        }
+        let count = self.hold(bytes);
+        if self.is_full() {
+            self.begin();
+        }
+        count
+    }
+
+    // Holds bytes until the stretch is whole.
+    fn hold(&mut self, bytes: &[u8]) -> usize
+        ensures within { result ≤ length bytes.now }
+        ensures held { self.new
+            ≡ record self.old { held = self.old.held ++ take result bytes.now } }
+        ensures rest { result < length bytes.now
+            → length self.new.held ≡ stretch_bytes self.old.task }
+    {
+        let count = bytes.len().min(self.held.len() - self.filled);
+        put(self.held.as_mut_slice(), self.filled, &bytes[..count]);
+        self.filled += count;
+        count
+    }
+
+    // Whether the stretch is whole.
+    fn is_full(&self) -> bool
+        ensures full { result ≡ true → length self.now.held ≡ stretch_bytes self.now.task }
+        ensures short { result ≡ false → length self.now.held < stretch_bytes self.now.task }
+    {
+        self.filled == self.held.len()
+    }
+
+    // Makes the scales of a whole stretch, whose spectra are to be levelled next.
+    fn begin(&mut self)
+        requires { length self.old.held ≡ stretch_bytes self.old.task }
+        ensures { Begins self.old self.new }
+    {
+        self.bounds();
+        let count = self.plan.spectra as usize;
+        self.measure(count);
+        self.first = 0;
+        self.last = count;
+    }
+
+    // Makes the scales of the first spectra that are held.
+    fn measure(&mut self, count: usize)
+        requires some { 0 < count }
+        requires most { count ≤ 1048576 }
+        requires inside { count * spectrum_bytes self.old.task.format ≤ length self.old.held }
+        ensures { Measures self.old self.new count }
+    {
+        measure(
+            &self.held.as_slice()[..self.filled],
+            self.format,
+            self.plan,
+            self.masked.as_slice(),
+            count,
+            self.row.as_mut_slice(),
+            self.lows.as_mut_slice(),
+            self.highs.as_mut_slice(),
+            self.counts.as_mut_slice(),
+            self.totals.as_mut_slice(),
+            self.squares.as_mut_slice(),
+            self.gains.as_mut_slice(),
+            self.bases.as_mut_slice(),
+            self.lifts.as_mut_slice(),
+        );
+        self.is_scaled = true;
+    }
+
+    /// How many spectra are to be levelled next.
+    pub fn pending(&self) -> usize
+        ensures count { result ≡ pending self.now }
+        ensures done { self.now.has_ended ≡ true → result ≡ 0 → IsDone self.now }
+    {
+        self.last - self.first
+    }
+
+    /// Levels the next spectra, or some of them: their bytes are the piece.
+    pub fn level(&mut self)
+        requires { 0 < pending self.old }
+        ensures { Gives self.old self.new }
+    {
+        self.bounds();
+        let count = self.make_piece();
+        self.pass(count);
+    }
+
+    // Levels as many of the next spectra as there is room for, and says how many.
+    fn make_piece(&mut self) -> usize
+        requires { 0 < pending self.old }
+        ensures some { 0 < result }
+        ensures makes { MakesPiece self.old self.new result }
+    {
+        let written = self.row.len() * (self.plan.bits as usize / 8);
+        let count = (self.last - self.first).min(self.piece.len() / written);
+        level_spectra(
+            &self.held.as_slice()[..self.filled],
+            self.format,
+            self.plan,
+            self.first,
+            count,
+            self.gains.as_slice(),
+            self.bases.as_slice(),
+            self.lifts.as_slice(),
+            self.fractions.as_mut_slice(),
+            self.row.as_mut_slice(),
+            self.levels.as_mut_slice(),
+            self.piece.as_mut_slice(),
+        );
+        self.made = count * written;
+        count
+    }
+
+    // Goes on behind spectra that were levelled: to the next ones, or to the next stretch.
+    fn pass(&mut self, count: usize)
+        requires { self.old.first + count ≤ self.old.last }
+        ensures on { (self.old.has_ended ≡ true) ⊎ (self.old.first + count < self.old.last)
+            → self.new ≡ record self.old { first = self.old.first + count } }
+        ensures over { self.old.has_ended ≡ false → self.old.first + count ≡ self.old.last
+            → self.new ≡ record self.old { held = []; first = 0; last = 0 } }
+    {
+        self.first += count;
+        if self.first < self.last || self.has_ended {
+            return;
+        }
+        self.filled = 0;
+        self.first = 0;
+        self.last = 0;
+    }
+
+    /// The bytes that were levelled last.
+    pub fn piece(&self) -> &[u8]
+        ensures { result.now ≡ self.now.piece }
+    {
+        &self.piece.as_slice()[..self.made]
+    }
+
+    /// Ends the data: the whole spectra that are held are to be levelled next.
+    pub fn end(&mut self)
+        requires { pending self.old ≡ 0 }
+        ensures { EndsAs self.old self.new }
+    {
+        self.bounds();
+        if self.has_ended {
+            return;
+        }
+        let count = self.whole_spectra();
+        self.scale_rest(count);
+        self.stop(count);
+    }
+
+    // Makes the scales of the spectra that are held, where there are none.
+    fn scale_rest(&mut self, count: usize)
+        requires few { count ≤ self.old.task.plan.spectra }
+        requires inside { count * spectrum_bytes self.old.task.format ≤ length self.old.held }
+        ensures task { self.new.task ≡ self.old.task }
+        ensures held { self.new.held ≡ self.old.held }
+        ensures kept { (count ≡ 0) ⊎ (self.old.is_scaled ≡ true) → self.new ≡ self.old }
+        ensures made { 0 < count → self.old.is_scaled ≡ false
+            → Measures self.old self.new count }
+    {
+        self.bounds();
+        if count == 0 || self.is_scaled {
+            return;
+        }
+        self.measure(count);
+    }
+
+    // How many whole spectra are held.
+    fn whole_spectra(&self) -> usize
+        ensures count { result ≡ length self.now.held / spectrum_bytes self.now.task.format }
+        ensures few { result ≤ self.now.task.plan.spectra }
+        ensures inside { result * spectrum_bytes self.now.task.format ≤ length self.now.held }
+    {
+        self.filled / self.spectrum
+    }
+
+    // Has these spectra levelled next, which are the last.
+    fn stop(&mut self, count: usize)
+        requires few { count ≤ self.old.task.plan.spectra }
+        requires inside { count * spectrum_bytes self.old.task.format ≤ length self.old.held }
+        ensures { self.new ≡ record self.old { first = 0; last = count; has_ended = true } }
+    {
+        self.first = 0;
+        self.last = count;
+        self.has_ended = true;
+    }
+}
+
+// Puts further bytes behind those that are held.
+fn put(held: &mut [u8], filled: usize, bytes: &[u8])
+    requires { filled + length bytes.now ≤ length held.old }
+    ensures { take (filled + length bytes.now) held.new ≡ take filled held.old ++ bytes.now }
+{
+    held[filled..filled + bytes.len()].copy_from_slice(bytes);
+}
+
+// A copy of marks.
+fn marks(alloc: Global, masked: &[bool]) -> Result<Vec<bool>, Memory>
+    ensures { IfOk result (λ v. v.items ≡ masked.now) }
+{
+    Ok(masked.to_vec(alloc)?)
+}
+
+// So many bytes that are 0.
+fn bytes(alloc: Global, count: usize) -> Result<Vec<u8>, Memory>
+    ensures { IfOk result (λ v. v.items ≡ replicate count 0) }
+{
+    Ok(vec![in alloc; 0; count]?)
+}
+
+// So many values of 32 bits that are 0.
+fn words(alloc: Global, count: usize) -> Result<Vec<u32>, Memory>
+    ensures { IfOk result (λ v. v.items ≡ replicate count 0) }
+{
+    Ok(vec![in alloc; 0; count]?)
+}
+
+// So many values of 64 bits that are 0.
+fn longs(alloc: Global, count: usize) -> Result<Vec<u64>, Memory>
+    ensures { IfOk result (λ v. v.items ≡ replicate count 0) }
+{
+    Ok(vec![in alloc; 0; count]?)
+}

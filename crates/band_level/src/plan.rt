@@ -1,0 +1,16 @@
+// What a band is levelled to.
+
+/// What the values of a levelled band are like.
+#[derive(Clone, Copy, Drop)]
+pub struct Plan {
+    /// How many spectra a stretch has.
+    pub spectra: u32,
+    /// The mean of each channel, in thousandths.
+    pub mean: u32,
+    /// The standard deviation of each channel, in thousandths.
+    pub deviation: u32,
+    /// The greatest value that is written.
+    pub most: u32,
+    /// How many bits are written of a value: 8, or 16 with the low byte first.
+    pub bits: u32,
+}
