@@ -1,2 +1,3 @@
 pub mod Flowing
+pub mod Stretches
 pub mod Openings

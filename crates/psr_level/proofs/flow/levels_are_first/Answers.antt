@@ -1,6 +1,5 @@
-use Rattle.band_level.specs.Levelling.{Levels}
+use Rattle.std.proofs.Common.{◌+◌}
 use Rattle.psr_level.proofs.flow.levels_are_first.Goals as goal
 
 pub returns : goal.returns
-unfolding Levels
-returns c = λ l bytes out was. absurd was
+returns c = λ l bytes out was. (was.0 + l.first, was.3)
