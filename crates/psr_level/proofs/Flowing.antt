@@ -220,7 +220,7 @@ keeps_more told is_calm faults f h j so_far kept = record {
   missing = λ calm was. kept.missing (so_far.calm calm) (so_far.missing calm was);
 }
 
-no_bytes : joined_bytes [] ≡ []
+pub no_bytes : joined_bytes [] ≡ []
 unfolding joined_bytes
 no_bytes = refl
 

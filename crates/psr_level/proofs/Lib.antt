@@ -1,3 +1,4 @@
 pub mod Flowing
 pub mod Stretches
 pub mod Openings
+pub mod Writing

@@ -1,7 +1,8 @@
 -- What a leveller made that waits for more of its stretch.
-use Rattle.std.proofs.Common.{◌≡◌, ℕ, zero, suc, ◌+◌, ◌-◌, ◌*◌, ◌/◌, ◌<◌, ◌≤◌, Bool, true, false, List, length, refl, sym, ap, ◌∙◌, subst, inl, inr, arith}
+use Rattle.std.proofs.Common.{◌≡◌, ℕ, zero, suc, ◌+◌, ◌-◌, ◌*◌, ◌/◌, ◌%◌, ◌<◌, ◌≤◌, Bool, true, false, List, length, refl, sym, ap, ◌∙◌, subst, inl, inr, arith}
 use Rattle.std.specs.Prelude.{◌⊎◌}
-use Rattle.std.proofs.lemmas.Bool.{true≢false, cases_eq}
+use Rattle.std.proofs.lemmas.Bool.{true≢false}
+use Rattle.std.proofs.Math.Nat.{div-add-mod, mod-lt, div-lt_iff_lt-mul, add-mul, mul_comm}
 use Rattle.std.proofs.lemmas.Nat.{div-mul-add}
 use Rattle.band_level.specs.Values.{band, spectrum_bytes}
 use Rattle.band_level.specs.Levelled.{first_levels}
@@ -11,7 +12,29 @@ use Rattle.psr_level.specs.Flows.{whole_stretches}
 -- so many whole stretches of n spectra of so many bytes each
 stretches : (bytes size n start held m : ℕ) → start * size + held ≡ bytes → held < n * size → start ≡ m * n →
     bytes / size / n * n ≡ start
-stretches bytes size n start held m is short whole = ?
+stretches bytes size n start held m is short whole =
+    let some : 0 < size = size_some size n held short in
+    let h = held / size in
+    let r = held % size in
+    let parts : size * h + r ≡ held = div-add-mod held size in
+    let less : r < size = mod-lt held some in
+    let few : h < n = (div-lt_iff_lt-mul some).1 short in
+    let sum : (start + h) * size + r ≡ bytes = sums start h size r held bytes parts is in
+    let spectra : bytes / size ≡ start + h =
+    ap (λ (b : ℕ). b / size) (sym sum) ∙ div-mul-add (start + h) size r less in
+    let count : (m * n + h) / n ≡ m = div-mul-add m n h few in
+    ap (λ (t : ℕ). t / n * n) (spectra ∙ ap (λ (x : ℕ). x + h) whole) ∙ ap (λ (k : ℕ). k * n) count ∙ sym whole
+  where
+    size_some : (size n held : ℕ) → held < n * size → 0 < size
+    size_some zero n held short = let none : n * 0 ≡ 0 = omega arith in absurd (omega (arith, none))
+    size_some (suc size) n held short = omega arith
+
+    sums : (start h size r held bytes : ℕ) → size * h + r ≡ held → start * size + held ≡ bytes →
+        (start + h) * size + r ≡ bytes
+    sums start h size r held bytes parts is =
+        let apart = add-mul start h size in
+        let turned : size * h ≡ h * size = mul_comm size h in
+        omega (arith, apart, turned)
 
 -- the stretch begins after whole ones
 begins : (l : Levelling) (start stretch : ℕ) → Waits l start stretch → (m : ℕ) × (start ≡ m * l.task.plan.spectra)

@@ -13,6 +13,11 @@ use Rattle.disk_feeder.specs.declared.answers.FeedEnd.TheVariants.{Whole}
 use Rattle.disk_feeder.specs.declared.feeder.Feeder.{Feeder}
 use Rattle.disk_feeder.specs.Feeder.{HasOpenFile, FeederSince, FeederMisses, has_end, plan_at, block_size}
 use Rattle.disk_feeder.specs.Handing.{FeederHands}
+use Rattle.run_stop.specs.declared.stop.Stop.{Stop}
+use Rattle.run_stop.specs.declared.stop.Stop.TheVariants.{SinkFault}
+use Rattle.run_stop.specs.Conversions.{stop_of_feed}
+use Rattle.psr_level.specs.declared.stop.LevelStop.{LevelStop}
+use Rattle.psr_level.specs.declared.stop.LevelStop.TheVariants.{Run}
 
 -- ---- a leveller
 
@@ -143,3 +148,37 @@ pub record BreaksFlow {I : Type 0} (told : I → Told) (is_calm : I → Type 0) 
   pub front_of : joined_bytes blocks ≡ bytes ++ rest
   pub spectra : ℕ
   pub front : WroteFront (first_levels task (band task.format bytes) spectra) before after
+
+-- ---- the file
+
+-- a stop of any run as one of a levelling
+abbrev pub as_level : Option Stop → Option LevelStop
+as_level None = None
+as_level (Some stop) = Some (Run stop)
+
+-- the header was written, and the data that ended so
+pub record WritesTo {I : Type 0} (told : I → Told) (is_calm : I → Type 0) (faults : I → ℕ)
+    (old new : Feeder I) (header : List ℕ) (task : Task) (before after : SinkSeen)
+    (stop : Option LevelStop) : Type 0 where
+  pub end : FeedEnd
+  pub is : stop ≡ as_level (stop_of_feed end)
+  pub ended : has_end new ≡ Some end
+  pub kept : KeepsOn told is_calm faults old new
+  pub blocks : List Entry
+  pub hands : FeederHands (told new.inputs.now) new blocks
+  pub wrote : WroteAll (header ++ text_at end task (joined_bytes blocks)) before after
+
+-- or a call of the output failed, once the front of the header and of some data bytes was written
+pub record BreaksWriting {I : Type 0} (told : I → Told) (is_calm : I → Type 0) (faults : I → ℕ)
+    (old new : Feeder I) (header : List ℕ) (task : Task) (before after : SinkSeen)
+    (stop : Option LevelStop) : Type 0 where
+  pub is : stop ≡ Some (Run SinkFault)
+  pub kept : KeepsOn told is_calm faults old new
+  pub blocks : List Entry
+  pub hands : FeederHands (told new.inputs.now) new blocks
+  pub bytes : List ℕ
+  pub rest : List ℕ
+  pub front_of : joined_bytes blocks ≡ bytes ++ rest
+  pub spectra : ℕ
+  pub front : WroteFront
+      (header ++ first_levels task (band task.format bytes) spectra) before after

@@ -2,3 +2,4 @@ pub mod Notes
 pub mod Flows
 pub mod Files
 pub mod Opening
+pub mod Outcome

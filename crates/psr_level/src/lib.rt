@@ -2,9 +2,9 @@
 #![tactic(auto)]
 
 mod flow;
-//mod lent;
+mod lent;
 mod open;
-//mod run;
+mod run;
 mod stop;
 //mod top;
 
