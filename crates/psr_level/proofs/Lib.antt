@@ -1,4 +1,0 @@
-pub mod Flowing
-pub mod Stretches
-pub mod Openings
-pub mod Writing

@@ -1,4 +1,0 @@
-use Rattle.psr_level.proofs.open.open_for.Goals as goal
-
-pub returns-in-Err-clause-stopped : goal.returns-in-Err-clause-stopped
-returns-in-Err-clause-stopped c = c.in-Err.ensures.stopped c.args.header.now

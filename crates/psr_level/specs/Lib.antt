@@ -1,5 +1,0 @@
-pub mod Notes
-pub mod Flows
-pub mod Files
-pub mod Opening
-pub mod Outcome
