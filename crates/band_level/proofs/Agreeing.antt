@@ -48,7 +48,7 @@ module _ (k : Task) (b c : Band) (stretches : ℕ) (agree : Agree k b c stretche
       let values : stretch_values k b s i ≡ stretch_values k c s i =
       ap (λ m. map (λ j. b.value (s * n + j) i) (range_with_len 0 m)) all
       ∙ maps_agree (λ j. b.value (s * n + j) i) (λ j. c.value (s * n + j) i) 0 n
-        (λ j low high. agree.values (s * n + j) i (omega arith) here)
+      (λ j low high. agree.values (s * n + j) i (omega arith) here)
       ∙ ap (λ m. map (λ j. c.value (s * n + j) i) (range_with_len 0 m)) (sym all_too) in
       ap (λ xs. scale_of k.plan (is_masked k i) (fair_moments xs)) values
 
@@ -75,11 +75,11 @@ module _ (k : Task) (b c : Band) (stretches : ℕ) (agree : Agree k b c stretche
   level_agrees : (t i : ℕ) → t < stretches * k.plan.spectra → i < cells k.format → level k b i t ≡ level k c i t
   level_agrees t i lt here =
       ap (λ x. min k.plan.most (x / unit - fine_before k b i t / unit - (scale_at k b t i).lift))
-        (before_agrees (t + 1) i (omega arith) here)
+      (before_agrees (t + 1) i (omega arith) here)
       ∙ ap (λ x. min k.plan.most (fine_before k c i (t + 1) / unit - x / unit - (scale_at k b t i).lift))
-        (before_agrees t i (omega arith) here)
+      (before_agrees t i (omega arith) here)
       ∙ ap (λ (s : Scale). min k.plan.most (fine_before k c i (t + 1) / unit - fine_before k c i t / unit - s.lift))
-        (at_agrees t i lt here)
+      (at_agrees t i lt here)
 
   spectrum_agrees : (t : ℕ) → t < stretches * k.plan.spectra → spectrum_levels k b t ≡ spectrum_levels k c t
   unfolding spectrum_levels

@@ -45,6 +45,33 @@ part_most low high x y most small = elim (is_between low high x) as (λ b. cond 
   | false ↦ omega arith
 ]
 
+-- the square of what is counted of a value
+part_square : (low high x : ℕ) → part_of low high x x * part_of low high x x ≡ part_of low high x (x * x)
+part_square low high x = elim (is_between low high x)
+    as (λ b. cond b x 0 * cond b x 0 ≡ cond b (x * x) 0) [
+      | true ↦ refl
+      | false ↦ refl
+    ]
+
+-- a row whose values between the bounds were kept
+pub adds_kept : (lows highs row kept counts totals squares counts' totals' squares' : List ℕ) → length kept ≡ length row
+    → ((i : ℕ) → i < length row → slice_index kept i
+    ≡ part_of (slice_index lows i) (slice_index highs i) (slice_index row i) (slice_index row i))
+    → ((i : ℕ) → i < length row → slice_index counts' i ≡ slice_index counts i
+    + part_of (slice_index lows i) (slice_index highs i) (slice_index row i) 1)
+    → ((i : ℕ) → i < length kept → slice_index totals' i ≡ slice_index totals i + slice_index kept i)
+    → ((i : ℕ) → i < length kept → slice_index squares' i
+    ≡ slice_index squares i + slice_index kept i * slice_index kept i)
+    → AddsRow lows highs row counts totals squares counts' totals' squares'
+adds_kept lows highs row kept counts totals squares counts' totals' squares' long keeps count total square = record {
+  count = count;
+  total = λ i lt. total i (omega arith) ∙ ap (λ v. slice_index totals i + v) (keeps i lt);
+  square = λ i lt. square i (omega arith)
+      ∙ ap (λ v. slice_index squares i + v * v) (keeps i lt)
+      ∙ ap (λ v. slice_index squares i + v)
+      (part_square (slice_index lows i) (slice_index highs i) (slice_index row i));
+}
+
 part_one : (low high x : ℕ) → part_of low high x 1 ≤ 1
 part_one low high x = elim (is_between low high x) as (λ b. cond b 1 0 ≤ 1) [
   | true ↦ omega arith
@@ -59,21 +86,35 @@ pub small_more : (n : ℕ) (lows highs row counts totals squares counts' totals'
     → AreSmall (n + 1) counts' totals' squares'
 small_more n lows highs row counts totals squares counts' totals' squares' small adds values lc lt ls = record {
   count = λ i. elim (cases_lt i (length row)) [
-    | inl h ↦ omega (arith, adds.count i h, small.count i,
-        part_one (slice_index lows i) (slice_index highs i) (slice_index row i))
+    | inl h ↦ omega (
+      arith,
+      adds.count i h,
+      small.count i,
+      part_one (slice_index lows i) (slice_index highs i) (slice_index row i),
+    )
     | inr h ↦ omega (arith, get_or_past counts' i 0 (omega arith))
   ];
   total = λ i. elim (cases_lt i (length row)) [
-    | inl h ↦ omega (arith, adds.count i h, adds.total i h, small.total i,
-        part_most (slice_index lows i) (slice_index highs i) (slice_index row i) (slice_index row i) 4194303 (values i))
+    | inl h ↦ omega (
+      arith,
+      adds.count i h,
+      adds.total i h,
+      small.total i,
+      part_most (slice_index lows i) (slice_index highs i) (slice_index row i) (slice_index row i) 4194303 (values i),
+    )
     | inr h ↦ omega (arith, get_or_past totals' i 0 (omega arith))
   ];
   square = λ i. elim (cases_lt i (length row)) [
-    | inl h ↦ omega (arith, adds.count i h, adds.square i h, small.square i,
-        part_most (slice_index lows i) (slice_index highs i) (slice_index row i)
-        (slice_index row i * slice_index row i) 17592177655809
-        (let e : slice_index row i * slice_index row i ≤ 4194303 * 4194303 = mul-le-mul (values i) (values i) in
-        omega (arith, e)))
+    | inl h ↦ omega (
+      arith,
+      adds.count i h,
+      adds.square i h,
+      small.square i,
+      part_most (slice_index lows i) (slice_index highs i) (slice_index row i)
+          (slice_index row i * slice_index row i) 17592177655809
+          (let e : slice_index row i * slice_index row i ≤ 4194303 * 4194303 = mul-le-mul (values i) (values i) in
+          omega (arith, e)),
+    )
     | inr h ↦ omega (arith, get_or_past squares' i 0 (omega arith))
   ];
 }

@@ -27,9 +27,10 @@ starts l range some held first last not_scaled goes_on none =
     let sb = spectrum_bytes l.task.format in
     let at : 0 + l.first ≡ 0 = omega arith in
     let long = ap length held in
-    let size : 0 * sb ≡ 0 = omega arith in
-    ( 0, 0
-    , record {
+    let size : 0 * sb ≡ 0 = omega arith in (
+      0,
+      0,
+      record {
         place = record {
           size = omega arith;
           held = held ∙ ap (λ n. drop n []) (sym size);
@@ -46,8 +47,9 @@ starts l range some held first last not_scaled goes_on none =
           scaled = λ is_scaled. let e : true ≡ false = sym is_scaled ∙ not_scaled in absurd (cc);
           begins = λ e. refl;
         };
-      }
-    , no_levels l.task (band_of l []) ∙ ap (first_levels l.task (band_of l [])) (sym at) )
+      },
+      no_levels l.task (band_of l []) ∙ ap (first_levels l.task (band_of l [])) (sym at),
+    )
 
 -- ---- the end
 
@@ -77,9 +79,10 @@ ends_scaled l count bytes out range some goes_on none is_count scaled (start, st
     let n = l.task.plan.spectra in
     let waits = is_waiting l bytes start stretch stands goes_on none in
     let total = spectra_are l bytes start range stands.place in
-    let short = few l start stretch range waits in
-    ( start, stretch
-    , record {
+    let short = few l start stretch range waits in (
+      start,
+      stretch,
+      record {
         place = record {
           size = stands.place.size;
           held = stands.place.held;
@@ -99,8 +102,9 @@ ends_scaled l count bytes out range some goes_on none is_count scaled (start, st
               quotient (band_of l bytes).spectra (stretch + 1) n (omega arith) (omega arith) in
               omega arith;
         });
-      }
-    , is_out ∙ ap (λ n. first_levels l.task (band_of l bytes) (start + n)) waits.first )
+      },
+      is_out ∙ ap (λ n. first_levels l.task (band_of l bytes) (start + n)) waits.first,
+    )
 
 -- with the scales of what is held, where there are none
 pub ends_short : (l : Levelling) (count : ℕ) (bytes out gains bases lifts : List ℕ) → FormatInRange l.task.format
@@ -109,23 +113,24 @@ pub ends_short : (l : Levelling) (count : ℕ) (bytes out gains bases lifts : Li
     → l.is_scaled ≡ false → HeldScales l l.held count gains bases lifts
     → Levels l bytes out
     → Levels (record l {
-        gains = gains;
-        bases = bases;
-        lifts = lifts;
-        is_scaled = true;
-        first = 0;
-        last = count;
-        has_ended = true;
-      }) bytes out
+      gains = gains;
+      bases = bases;
+      lifts = lifts;
+      is_scaled = true;
+      first = 0;
+      last = count;
+      has_ended = true;
+    }) bytes out
 ends_short l count bytes out gains bases lifts range some goes_on none is_count fits not_scaled scales
     (start, stretch, stands, is_out) =
     let n = l.task.plan.spectra in
     let waits = is_waiting l bytes start stretch stands goes_on none in
     let total = spectra_are l bytes start range stands.place in
     let short = few l start stretch range waits in
-    let zero_start = waits.begins not_scaled in
-    ( start, 0
-    , record {
+    let zero_start = waits.begins not_scaled in (
+      start,
+      0,
+      record {
         place = record {
           size = stands.place.size;
           held = stands.place.held;
@@ -144,8 +149,9 @@ ends_short l count bytes out gains bases lifts range some goes_on none is_count 
               quotient (band_of l bytes).spectra 0 n (omega arith) (omega arith) in
               omega arith;
         });
-      }
-    , is_out ∙ ap (λ n. first_levels l.task (band_of l bytes) (start + n)) waits.first )
+      },
+      is_out ∙ ap (λ n. first_levels l.task (band_of l bytes) (start + n)) waits.first,
+    )
 
 -- all is levelled
 pub all_done : (l : Levelling) → l.has_ended ≡ true → pending l ≡ 0 → IsDone l

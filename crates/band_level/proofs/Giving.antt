@@ -13,7 +13,6 @@ use Rattle.band_level.specs.Levelled.{Task, scale_by, scale_at, stretch_for, fin
 use Rattle.band_level.specs.Spectra.{AreHeld, AreLevelled, LevelsSpectra}
 use Rattle.band_level.specs.Levelling.{Levelling, IsAt, StandsFor, Waits, IsWhole, Ends, Levels, IsDone, band_of, pending}
 use Rattle.band_level.proofs.Agreeing.{own_stretch}
-
 use Rattle.band_level.proofs.Standing.{held_cells, held_scales, is_waiting, some_bytes}
 
 -- ---- levels behind others
@@ -31,7 +30,7 @@ front_and_rest f a (suc n) =
     ∙ ap (λ xs. xs ++ f (a + n)) (front_and_rest f a n)
     ∙ append_assoc (flat_map f (range_with_len 0 a)) (flat_map f (range_with_len a n)) (f (a + n))
     ∙ ap (λ xs. flat_map f (range_with_len 0 a) ++ xs)
-      (sym (flat_map_range_more f a n (a + n) refl) ∙ ap (λ m. flat_map f (range_with_len a m)) g)
+    (sym (flat_map_range_more f a n (a + n) refl) ∙ ap (λ m. flat_map f (range_with_len a m)) g)
 
 levels_behind : (k : Task) (b : Band) (a n : ℕ)
     → first_levels k b (a + n) ≡ first_levels k b a ++ flat_map (spectrum_levels k b) (range_with_len a n)
@@ -63,7 +62,7 @@ whole_is_ready l bytes start stretch range some place whole =
     let all : (stretch + 1) * n ≤ length bytes / sb =
     le-div ((stretch + 1) * n) _ _ (some_bytes l.task.format range)
     (let e : (stretch + 1) * n * sb ≡ start * sb + n * sb =
-      ap (λ m. m * sb) (let h : (stretch + 1) * n ≡ start + n = omega arith in h) ∙ omega arith in
+    ap (λ m. m * sb) (let h : (stretch + 1) * n ≡ start + n = omega arith in h) ∙ omega arith in
     omega arith) in
     record {
       inside = let e : l.last * sb ≡ n * sb = ap (λ m. m * sb) whole.last in omega arith;
@@ -125,7 +124,6 @@ module _ (l : Levelling) (count : ℕ) (fractions piece : List ℕ) (range : For
     (some : 0 < l.task.plan.spectra) (next : 0 < pending l) (makes : MakesSpectra l count fractions piece)
     (bytes out : List ℕ) (start stretch : ℕ) (stands : StandsFor l bytes start stretch)
     (is_out : out ≡ first_levels l.task (band_of l bytes) (start + l.first)) where
-
   made : AreLevelled l.task (band_of l bytes) (start + l.first) count fractions [] piece
   made = makes.levels l.task.masked (band_of l bytes) (start + l.first)
       (held_spectra l bytes start stretch count range stands (ready l bytes start stretch range some next stands) makes.few)
@@ -156,9 +154,10 @@ pub gives_on : (l : Levelling) (count : ℕ) (fractions piece bytes out : List �
     → (l.has_ended ≡ false → l.first + count < l.last) → Levels l bytes out
     → Levels (record l { fractions = fractions; piece = piece; first = l.first + count }) bytes (out ++ piece)
 gives_on l count fractions piece bytes out range some next makes left (start, stretch, stands, is_out) =
-    let few = makes.few in
-    ( start, stretch
-    , record {
+    let few = makes.few in (
+      start,
+      stretch,
+      record {
         place = record {
           size = stands.place.size;
           held = stands.place.held;
@@ -171,24 +170,25 @@ gives_on l count fractions piece bytes out range some next makes left (start, st
           | inl waits ↦ let e = waits.last in absurd (omega arith)
           | inr other ↦ elim other [
             | inl whole ↦ inr (inl record {
-                goes_on = whole.goes_on;
-                last = whole.last;
-                some = left whole.goes_on;
-                long = whole.long;
-                scaled = whole.scaled;
-                begins = whole.begins;
-              })
+              goes_on = whole.goes_on;
+              last = whole.last;
+              some = left whole.goes_on;
+              long = whole.long;
+              scaled = whole.scaled;
+              begins = whole.begins;
+            })
             | inr ends ↦ inr (inr record {
-                ended = ends.ended;
-                last = ends.last;
-                scaled = ends.scaled;
-                here = ends.here;
-              })
+              ended = ends.ended;
+              last = ends.last;
+              scaled = ends.scaled;
+              here = ends.here;
+            })
           ]
         ];
-      }
-    , out_more l count fractions piece range some next makes bytes out start stretch stands is_out
-      (start + (l.first + count)) (omega arith) )
+      },
+      out_more l count fractions piece range some next makes bytes out start stretch stands is_out
+          (start + (l.first + count)) (omega arith),
+    )
 
 -- a stretch is over: the next one begins
 pub gives_last : (l : Levelling) (count : ℕ) (fractions piece bytes out : List ℕ) → FormatInRange l.task.format
@@ -207,9 +207,10 @@ gives_last l count fractions piece bytes out range some next makes goes_on all (
             let long = whole.long in
             let last = whole.last in
             let is_start = whole.begins in
-            let next_start : (start + n) * sb ≡ length bytes = omega arith in
-            ( start + n, stretch
-            , record {
+            let next_start : (start + n) * sb ≡ length bytes = omega arith in (
+              start + n,
+              stretch,
+              record {
                 place = record {
                   size = omega arith;
                   held = sym (ap (λ m. drop m bytes) next_start ∙ dropped bytes);
@@ -226,8 +227,9 @@ gives_last l count fractions piece bytes out range some next makes goes_on all (
                   scaled = λ is_scaled. omega arith;
                   begins = λ not_scaled. let e : true ≡ false = sym whole.scaled ∙ not_scaled in absurd (cc);
                 };
-              }
-            , out_more l count fractions piece range some next makes bytes out start stretch stands is_out
-              (start + n + 0) (omega arith) )
+              },
+              out_more l count fractions piece range some next makes bytes out start stretch stands is_out
+                  (start + n + 0) (omega arith),
+            )
       ]
     ]

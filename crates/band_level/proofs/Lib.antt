@@ -13,3 +13,4 @@ pub mod Giving
 pub mod Ending
 pub mod Written
 pub mod Stepping
+pub mod Means

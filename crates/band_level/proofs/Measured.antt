@@ -19,7 +19,7 @@ filters_agree p q f a (suc n) same =
     let rest = filters_agree p q f (a + 1) n (λ t low high. same t (omega arith) (omega arith)) in
     ap (λ ys. cond (p (f a)) (f a ∷ ys) ys) rest
     ∙ ap (λ b. cond b (f a ∷ filter q (map f (range_with_len (a + 1) n))) (filter q (map f (range_with_len (a + 1) n))))
-      (same a (omega arith) (omega arith))
+    (same a (omega arith) (omega arith))
 
 all_kept : (f : ℕ → ℕ) (a n : ℕ) → filter (λ x. true) (map f (range_with_len a n)) ≡ map f (range_with_len a n)
 all_kept f a zero = refl
@@ -49,9 +49,9 @@ all_counted : (value : ℕ → ℕ → ℕ) (n i low high : ℕ) → low ≡ 0 �
 all_counted value n i low high is_low is_high small =
     filters_agree (is_between low high) (λ x. true) (λ t. value t i) 0 n
     (λ t from to.
-      let a : leb low (value t i) ≡ true = le-leb _ _ (omega arith) in
-      let b : leb (value t i) high ≡ true = le-leb _ _ (omega (arith, small t (omega arith))) in
-      ap (λ v. v && leb (value t i) high) a ∙ b)
+    let a : leb low (value t i) ≡ true = le-leb _ _ (omega arith) in
+    let b : leb (value t i) high ≡ true = le-leb _ _ (omega (arith, small t (omega arith))) in
+    ap (λ v. v && leb (value t i) high) a ∙ b)
     ∙ all_kept (λ t. value t i) 0 n
 
 -- then some were counted of each cell
@@ -64,8 +64,12 @@ some_counted value cells n lows highs counts totals squares some small low_is hi
     let low : slice_index lows i ≡ 0 = ap (λ l. slice_index l i) low_is ∙ get_or-replicate cells i 0 0 here in
     let high : slice_index highs i ≡ 4294967295 =
     ap (λ l. slice_index l i) high_is ∙ get_or-replicate cells i 4294967295 0 here in
-    omega (arith, sums.count i here, ap length (all_counted value n i _ _ low high (λ t lt. omega (arith, small t i lt here))),
-    length-map-range_with_len (λ t. value t i) 0 n)
+    omega (
+      arith,
+      sums.count i here,
+      ap length (all_counted value n i _ _ low high (λ t lt. omega (arith, small t i lt here))),
+      length-map-range_with_len (λ t. value t i) 0 n,
+    )
 
 -- scales that are set, of as many cells as another number says
 pub sets_for : {n m : ℕ} {p : Plan} {mark : ℕ → Bool} {moments : ℕ → Moments}

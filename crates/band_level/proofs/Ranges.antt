@@ -5,12 +5,16 @@ use Rattle.std.proofs.lemmas.List.Sums.{sum-map, sum_by-append, sum_by-cons}
 use Rattle.std.proofs.lemmas.List.FromFn.{sum_by-map-range_with_len_more, filter_of_map_range_with_len_more}
 
 -- one number more
+pub sum_range_more_from : (f : ℕ → ℕ) (a n j : ℕ) → a + n ≡ j
+    → sum_by f (range_with_len a (n + 1)) ≡ sum_by f (range_with_len a n) + f j
+sum_range_more_from f a n j e =
+    sym (sum-map f (range_with_len a (n + 1)))
+    ∙ sum_by-map-range_with_len_more (λ (x : ℕ). x) f a n j e
+    ∙ ap (λ s. s + f j) (sum-map f (range_with_len a n))
+
 pub sum_range_more : (f : ℕ → ℕ) (n : ℕ)
     → sum_by f (range_with_len 0 (n + 1)) ≡ sum_by f (range_with_len 0 n) + f n
-sum_range_more f n =
-    sym (sum-map f (range_with_len 0 (n + 1)))
-    ∙ sum_by-map-range_with_len_more (λ (x : ℕ). x) f 0 n n (omega arith)
-    ∙ ap (λ s. s + f n) (sum-map f (range_with_len 0 n))
+sum_range_more f n = sum_range_more_from f 0 n n (omega arith)
 
 -- a value more, if it is counted
 sum_if : (g : ℕ → ℕ) (b : Bool) (x : ℕ) → sum_by g (cond b (x ∷ []) []) ≡ cond b (g x) 0

@@ -85,18 +85,18 @@ near_is m r x low high some fits above is_low is_high small =
     let quotient = le-div_iff_mul-le {k = n} {x = x} {y = s + r} some in
     and_same (leb low x) (leb x high) (leb (far * far) (16 * spread m))
     (λ from to.
-      let a = leb-true low x from in
-      let b = leb-true x high to in
-      let up : low * n ≤ x * n = mul-le-mul_right n a in
-      let least : s - r ≤ div_ceil (s - r) n * n = (div_ceil_times (s - r) n some).0 in
-      let same : low * n ≡ div_ceil (s - r) n * n = ap (λ d. d * n) is_low in
-      let most : x * n ≤ s + r = quotient.0 (omega arith) in
-      let near : far ≤ r = omega arith in
-      le-leb _ _ (omega (arith, squares_rise far r near)))
+    let a = leb-true low x from in
+    let b = leb-true x high to in
+    let up : low * n ≤ x * n = mul-le-mul_right n a in
+    let least : s - r ≤ div_ceil (s - r) n * n = (div_ceil_times (s - r) n some).0 in
+    let same : low * n ≡ div_ceil (s - r) n * n = ap (λ d. d * n) is_low in
+    let most : x * n ≤ s + r = quotient.0 (omega arith) in
+    let near : far ≤ r = omega arith in
+    le-leb _ _ (omega (arith, squares_rise far r near)))
     (λ here.
-      let near = within_root (16 * spread m) r far above (leb-true _ _ here) in
-      le-leb _ _ (let b = ceil_below (s - r) n x some (omega arith) in omega arith))
+    let near = within_root (16 * spread m) r far above (leb-true _ _ here) in
+    le-leb _ _ (let b = ceil_below (s - r) n x some (omega arith) in omega arith))
     (λ here.
-      let near = within_root (16 * spread m) r far above (leb-true _ _ here) in
-      let b : x ≤ (s + r) / n = quotient.1 (omega arith) in
-      le-leb _ _ (omega arith))
+    let near = within_root (16 * spread m) r far above (leb-true _ _ here) in
+    let b : x ≤ (s + r) / n = quotient.1 (omega arith) in
+    le-leb _ _ (omega arith))

@@ -26,8 +26,8 @@ abbrev word_of : ℕ → Bool → List ℕ → ℕ → ℕ
 word_of bits high_first bytes j =
     if bits == 16
     then (if high_first
-      then 256 * slice_index bytes (2 * j) + slice_index bytes (2 * j + 1)
-      else slice_index bytes (2 * j) + 256 * slice_index bytes (2 * j + 1))
+    then 256 * slice_index bytes (2 * j) + slice_index bytes (2 * j + 1)
+    else slice_index bytes (2 * j) + 256 * slice_index bytes (2 * j + 1))
     else slice_index bytes j
 
 -- a word of two bytes
@@ -51,7 +51,7 @@ module _ (high_first : Bool) (xs ys : List ℕ) (d limit j i : ℕ)
       let f : d + (2 * j + 1) ≡ 2 * i + 1 = omega arith in
       ap (λ v. pair_of high_first v (slice_index xs (2 * j + 1))) (same (2 * j) (omega arith) ∙ ap (λ k. slice_index ys k) e)
       ∙ ap (λ v. pair_of high_first (slice_index ys (2 * i)) v)
-        (same (2 * j + 1) (omega arith) ∙ ap (λ k. slice_index ys k) f)
+      (same (2 * j + 1) (omega arith) ∙ ap (λ k. slice_index ys k) f)
 
   word_shift : (bits : ℕ) → (bits ≡ 8) ⊎ (bits ≡ 16) → Shifted bits
   word_shift bits kind = elim kind [
@@ -98,6 +98,6 @@ cell_shift f xs ys d limit t u i range same at fits here =
     sums_agree (λ k. value_at f xs ((t * f.average + k) * cells f + i))
     (λ k. value_at f ys ((u * f.average + k) * cells f + i)) 0 f.average
     (λ k low high.
-      value_shift f xs ys d limit _ _ range.bits same
-      (place d t u f.average (cells f) (f.bits / 8) k i at)
-      (inside t f.average (cells f) (f.bits / 8) k i limit (omega arith) here fits))
+    value_shift f xs ys d limit _ _ range.bits same
+    (place d t u f.average (cells f) (f.bits / 8) k i at)
+    (inside t f.average (cells f) (f.bits / 8) k i limit (omega arith) here fits))

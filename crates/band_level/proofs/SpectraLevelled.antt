@@ -39,7 +39,6 @@ module _ (k : Task) (b : Band) (t : ℕ) (row gains bases lifts fractions levels
     (values : (i : ℕ) → i < cells k.format → slice_index row i ≡ b.value t i)
     (scales : HoldScales (cells k.format) (scale_at k b t) gains bases lifts)
     (carried : Carried k b t fractions) where
-
   here : (i : ℕ) → i < cells k.format
       → (units_at row gains bases fractions i % unit ≡ fine_before k b i (t + 1) % unit)
       × (units_at row gains bases fractions i / unit ≡ whole k b i t)
@@ -89,7 +88,7 @@ one_levelled f p held gains bases lifts row levels old new before after first lo
     let on : start + 0 ≡ start = omega arith in
     let values : (i : ℕ) → i < cells f → slice_index row i ≡ b.value start i =
     λ i lt. read i lt ∙ sym (ap (λ j. cell_value f held j i) at) ∙ is_held.values 0 i (omega arith) lt
-      ∙ ap (λ t. b.value t i) on in
+    ∙ ap (λ t. b.value t i) on in
     let scales : HoldScales (cells f) (scale_at k b start) gains bases lifts =
     subst (λ (t : ℕ). HoldScales (cells f) (scale_at k b t) gains bases lifts) on (is_held.scales 0 (omega arith)) in
     record {
@@ -132,7 +131,7 @@ spectra_more f p held gains bases lifts old mid new before middle after first co
           ∙ ap (λ xs. xs ++ flat_map (spectrum_levels k b) (range_with_len (start + count) 1)) before_it.written
           ∙ append_assoc before (flat_map (spectrum_levels k b) (range_with_len start count)) _
           ∙ ap (λ xs. before ++ (flat_map (spectrum_levels k b) (range_with_len start count) ++ xs))
-            (append-nil (spectrum_levels k b (start + count)))
+          (append-nil (spectrum_levels k b (start + count)))
           ∙ ap (λ xs. before ++ xs) (sym (flat_map_range_more (spectrum_levels k b) start count (start + count) refl));
     }
 

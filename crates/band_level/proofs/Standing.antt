@@ -69,7 +69,7 @@ prefix_agrees k bytes more stretches start range some is_start fits =
           let part : (t + 1) * spectrum_bytes f ≤ start * spectrum_bytes f = mul-le-mul_right _ (omega arith) in
           cell_shift f bytes (bytes ++ more) 0 (length bytes) t t i range
           (λ k low. let e : k ≡ 0 + k = omega arith in
-            sym (get_or_append_left bytes more 0 k low) ∙ ap (λ j. slice_index (bytes ++ more) j) e)
+          sym (get_or_append_left bytes more 0 k low) ∙ ap (λ j. slice_index (bytes ++ more) j) e)
           (omega arith) (omega arith) inside;
     }
 
@@ -94,8 +94,8 @@ at_more l bytes piece start stretches range some is_start first place =
       held = ap (λ xs. xs ++ piece) place.held ∙ sym (drop-append-le _ bytes piece (omega arith));
       carried = λ i lt. place.carried i lt
           ∙ ap (λ x. x % unit)
-            (before_agrees l.task (band_of l bytes) (band_of l (bytes ++ piece)) stretches agree (start + l.first) i
-            (omega arith) lt);
+          (before_agrees l.task (band_of l bytes) (band_of l (bytes ++ piece)) stretches agree (start + l.first) i
+          (omega arith) lt);
     }
 
 levels_more : (l : Levelling) (bytes piece : List ℕ) (start stretches : ℕ) → FormatInRange l.task.format
@@ -138,9 +138,10 @@ pub takes_short : (l : Levelling) (bytes piece out : List ℕ) → FormatInRange
 takes_short l bytes piece out range some goes_on none short (start, stretch, stands, is_out) =
     let waits = is_waiting l bytes start stretch stands goes_on none in
     let on = begins l start stretch waits in
-    let size = stands.place.size in
-    ( start, stretch
-    , record {
+    let size = stands.place.size in (
+      start,
+      stretch,
+      record {
         place = at_more l bytes piece start on.0 range some on.1 waits.first stands.place;
         order = stands.order;
         scales = λ is_scaled i lt.
@@ -148,7 +149,7 @@ takes_short l bytes piece out range some goes_on none short (start, stretch, sta
             let agree = prefix_agrees l.task bytes piece (stretch + 1) start range some next (omega arith) in
             stands.scales is_scaled i lt
             ∙ scales_agree l.task (band_of l bytes) (band_of l (bytes ++ piece)) (stretch + 1) agree stretch i
-              (omega arith) lt;
+            (omega arith) lt;
         stage = inl record {
           goes_on = goes_on;
           first = waits.first;
@@ -157,8 +158,9 @@ takes_short l bytes piece out range some goes_on none short (start, stretch, sta
           scaled = waits.scaled;
           begins = waits.begins;
         };
-      }
-    , is_out ∙ levels_more l bytes piece start on.0 range some on.1 waits.first stands.place )
+      },
+      is_out ∙ levels_more l bytes piece start on.0 range some on.1 waits.first stands.place,
+    )
 
 -- ---- bytes that fill it
 
@@ -174,10 +176,10 @@ held_scales l bytes start stretch count gains bases lifts range place is_start f
     let n = l.task.plan.spectra in
     let values : column (cell_value f l.held) count i ≡ stretch_values l.task (band_of l bytes) stretch i =
     maps_agree (λ j. cell_value f l.held j i) (λ j. cell_value f bytes (stretch * n + j) i) 0 count
-      (λ j low high.
-        let part : (j + 1) * spectrum_bytes f ≤ count * spectrum_bytes f = mul-le-mul_right _ (omega arith) in
-        let e : start + j ≡ stretch * n + j = omega arith in
-        held_cells l bytes start j i range place (omega arith) lt ∙ ap (λ u. cell_value f bytes u i) e)
+    (λ j low high.
+    let part : (j + 1) * spectrum_bytes f ≤ count * spectrum_bytes f = mul-le-mul_right _ (omega arith) in
+    let e : start + j ≡ stretch * n + j = omega arith in
+    held_cells l bytes start j i range place (omega arith) lt ∙ ap (λ u. cell_value f bytes u i) e)
     ∙ ap (λ m. map (λ j. cell_value f bytes (stretch * n + j) i) (range_with_len 0 m)) (sym is_count) in
     scales i lt ∙ ap (λ xs. scale_of l.task.plan (is_masked l.task i) (fair_moments xs)) values
 
@@ -205,9 +207,10 @@ takes_whole l bytes piece out gains bases lifts range some goes_on none long sca
     let size = place.size in
     let sb = spectrum_bytes l.task.format in
     let all : start + l.task.plan.spectra ≤ length (bytes ++ piece) / sb =
-    le-div (start + l.task.plan.spectra) _ _ (some_bytes l.task.format range) (omega arith) in
-    ( start, on.0
-    , record {
+    le-div (start + l.task.plan.spectra) _ _ (some_bytes l.task.format range) (omega arith) in (
+      start,
+      on.0,
+      record {
         place = record {
           size = place.size;
           held = place.held;
@@ -225,6 +228,7 @@ takes_whole l bytes piece out gains bases lifts range some goes_on none long sca
           scaled = refl;
           begins = on.1;
         });
-      }
-    , is_out ∙ levels_more l bytes piece start on.0 range some on.1 waits.first stands.place
-      ∙ ap (λ n. first_levels l.task (band_of l (bytes ++ piece)) (start + n)) waits.first )
+      },
+      is_out ∙ levels_more l bytes piece start on.0 range some on.1 waits.first stands.place
+          ∙ ap (λ n. first_levels l.task (band_of l (bytes ++ piece)) (start + n)) waits.first,
+    )

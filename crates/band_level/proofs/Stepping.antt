@@ -21,7 +21,7 @@ use Rattle.band_level.proofs.Ending.{ends_scaled, ends_short}
 abbrev ScalesOf : Levelling → List Bool → List ℕ → ℕ → List ℕ → List ℕ → List ℕ → Type 0
 ScalesOf l masked held count gains bases lifts = HoldScales (cells l.task.format)
     (λ i. scale_of l.task.plan (marks_cell masked l.task.format.polarisations i)
-      (fair_moments (column (cell_value l.task.format held) count i)))
+    (fair_moments (column (cell_value l.task.format held) count i)))
     gains bases lifts
 
 pub measures : (v l : Levelling) (count : ℕ) (masked : List Bool) (held gains bases lifts gains' bases' lifts' : List ℕ)
@@ -33,7 +33,7 @@ measures v l count masked held gains bases lifts gains' bases' lifts' view is_ma
     subst (λ (ms : List Bool). ScalesOf v ms v.held count gains bases lifts) is_masked
     (subst (λ (hs : List ℕ). ScalesOf v masked hs count gains bases lifts) is_held scales) in
     subst (λ (x : Levelling).
-      Measures x (record v { gains = gains'; bases = bases'; lifts = lifts'; is_scaled = true }) count) view
+    Measures x (record v { gains = gains'; bases = bases'; lifts = lifts'; is_scaled = true }) count) view
     record {
       same = refl;
       scales = scales_in (cells v.task.format) _ gains bases lifts gains' bases' lifts' g b f here;
@@ -47,13 +47,13 @@ begun v mid l n view made is_n =
     subst (λ (x : Levelling). Begins l (record x { first = 0; last = n })) (sym is)
     record {
       same = ap (λ k. record l {
-          gains = mid.gains;
-          bases = mid.bases;
-          lifts = mid.lifts;
-          is_scaled = true;
-          first = 0;
-          last = k;
-        }) is_n;
+        gains = mid.gains;
+        bases = mid.bases;
+        lifts = mid.lifts;
+        is_scaled = true;
+        first = 0;
+        last = k;
+      }) is_n;
       scales = subst (λ (k : ℕ). HeldScales l l.held k mid.gains mid.bases mid.lifts) is_n made.scales;
     }
 
@@ -100,7 +100,6 @@ takes_none l = record {
 module _ (l m : Levelling) (count : ℕ) (fractions piece : List ℕ) (range : FormatInRange l.task.format)
     (some : 0 < l.task.plan.spectra) (next : 0 < pending l) (some_count : 0 < count)
     (makes : MakesSpectra l count fractions piece) where
-
   gives_more : (l.has_ended ≡ false → l.first + count < l.last)
       → m ≡ record l { fractions = fractions; piece = piece; first = l.first + count } → Gives l m
   gives_more left is =
@@ -126,18 +125,18 @@ module _ (l m : Levelling) (count : ℕ) (fractions piece : List ℕ) (range : F
 
   at_end : (b : Bool) → l.has_ended ≡ b → l.first + count ≡ l.last
       → ((l.has_ended ≡ true) ⊎ (l.first + count < l.last)
-        → m ≡ record l { fractions = fractions; piece = piece; first = l.first + count })
+      → m ≡ record l { fractions = fractions; piece = piece; first = l.first + count })
       → (l.has_ended ≡ false → l.first + count ≡ l.last
-        → m ≡ record l { fractions = fractions; piece = piece; held = []; first = 0; last = 0 })
+      → m ≡ record l { fractions = fractions; piece = piece; held = []; first = 0; last = 0 })
       → Gives l m
   at_end true e all on over =
       gives_more (λ goes_on. let h : true ≡ false = sym e ∙ goes_on in absurd (cc)) (on (inl e))
   at_end false e all on over = gives_all e all (over e all)
 
   pub gives : ((l.has_ended ≡ true) ⊎ (l.first + count < l.last)
-        → m ≡ record l { fractions = fractions; piece = piece; first = l.first + count })
+      → m ≡ record l { fractions = fractions; piece = piece; first = l.first + count })
       → (l.has_ended ≡ false → l.first + count ≡ l.last
-        → m ≡ record l { fractions = fractions; piece = piece; held = []; first = 0; last = 0 })
+      → m ≡ record l { fractions = fractions; piece = piece; held = []; first = 0; last = 0 })
       → Gives l m
   gives on over = elim (cases_lt (l.first + count) l.last) [
     | inl lt ↦ gives_more (λ goes_on. lt) (on (inr lt))
@@ -155,9 +154,9 @@ gives_by l mid m count range some next some_count makes on over =
     let r : Levelling = record l { fractions = fractions; piece = piece } in
     let is : mid ≡ r = makes.same in
     let on_it = subst (λ (x : Levelling). (x.has_ended ≡ true) ⊎ (x.first + count < x.last)
-      → m ≡ record x { first = x.first + count }) is on in
+    → m ≡ record x { first = x.first + count }) is on in
     let over_it = subst (λ (x : Levelling). x.has_ended ≡ false → x.first + count ≡ x.last
-      → m ≡ record x { held = []; first = 0; last = 0 }) is over in
+    → m ≡ record x { held = []; first = 0; last = 0 }) is over in
     gives l m count fractions piece range some next some_count
     record { few = makes.few; levels = makes.levels } on_it over_it
 
@@ -177,7 +176,6 @@ module _ (l mid m : Levelling) (count : ℕ) (range : FormatInRange l.task.forma
     (kept : (count ≡ 0) ⊎ (l.is_scaled ≡ true) → mid ≡ l)
     (made : 0 < count → l.is_scaled ≡ false → Measures l mid count)
     (is : m ≡ record mid { first = 0; last = count; has_ended = true }) where
-
   ends_with : (0 < count → l.is_scaled ≡ true) → mid ≡ l → EndsAs l m
   ends_with scaled same =
       let it : m ≡ record l { first = 0; last = count; has_ended = true } =
@@ -192,14 +190,14 @@ module _ (l mid m : Levelling) (count : ℕ) (range : FormatInRange l.task.forma
   ends_made : l.is_scaled ≡ false → Measures l mid count → EndsAs l m
   ends_made not_scaled measured =
       let it : m ≡ record l {
-          gains = mid.gains;
-          bases = mid.bases;
-          lifts = mid.lifts;
-          is_scaled = true;
-          first = 0;
-          last = count;
-          has_ended = true;
-        } = is ∙ ap (λ (x : Levelling). record x { first = 0; last = count; has_ended = true }) measured.same in
+        gains = mid.gains;
+        bases = mid.bases;
+        lifts = mid.lifts;
+        is_scaled = true;
+        first = 0;
+        last = count;
+        has_ended = true;
+      } = is ∙ ap (λ (x : Levelling). record x { first = 0; last = count; has_ended = true }) measured.same in
       subst (λ (x : Levelling). EndsAs l x) (sym it)
       record {
         task = refl;

@@ -22,10 +22,10 @@ pub record AddsRow (lows highs row counts totals squares counts' totals' squares
       + part_of (slice_index lows i) (slice_index highs i) (slice_index row i) 1
   pub total : (i : ℕ) → i < length row → slice_index totals' i ≡ slice_index totals i
       + part_of (slice_index lows i) (slice_index highs i) (slice_index row i)
-        (slice_index row i)
+      (slice_index row i)
   pub square : (i : ℕ) → i < length row → slice_index squares' i ≡ slice_index squares i
       + part_of (slice_index lows i) (slice_index highs i) (slice_index row i)
-        (slice_index row i * slice_index row i)
+      (slice_index row i * slice_index row i)
 
 -- the values of a cell that lie between its bounds
 abbrev pub counted : (ℕ → ℕ → ℕ) → List ℕ → List ℕ → ℕ → ℕ → List ℕ

@@ -19,6 +19,6 @@ MeansAreKept = (k : Task) (b : Band) (stretch i : ℕ) → TaskInRange k →
     (stretch + 1) * k.plan.spectra ≤ b.spectra →
     (fair_moments (stretch_values k b stretch i)).count ≡ k.plan.spectra →
     ((t : ℕ) → stretch * k.plan.spectra ≤ t → t < (stretch + 1) * k.plan.spectra
-      → IsUncut k b i t) →
+    → IsUncut k b i t) →
     distance (1000 * sum_by (level k b i) (range_with_len (stretch * k.plan.spectra) k.plan.spectra))
-      (k.plan.spectra * k.plan.mean) < 2000
+    (k.plan.spectra * k.plan.mean) < 2000

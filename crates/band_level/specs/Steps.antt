@@ -18,7 +18,7 @@ stretch_bytes k = k.plan.spectra * spectrum_bytes k.format
 abbrev pub HeldScales : Levelling → List ℕ → ℕ → List ℕ → List ℕ → List ℕ → Type 0
 HeldScales l held count gains bases lifts = HoldScales (cells l.task.format)
     (λ i. scale_of l.task.plan (is_masked l.task i)
-      (fair_moments (column (cell_value l.task.format held) count i)))
+    (fair_moments (column (cell_value l.task.format held) count i)))
     gains bases lifts
 
 -- they are made
@@ -37,11 +37,11 @@ pub record MakesPiece (l m : Levelling) (count : ℕ) : Type 0 where
 -- a whole stretch is to be levelled
 pub record Begins (l m : Levelling) : Type 0 where
   pub same : m ≡ record l {
-        gains = m.gains;
-        bases = m.bases;
-        lifts = m.lifts;
-        is_scaled = true;
-        first = 0;
-        last = l.task.plan.spectra;
-      }
+    gains = m.gains;
+    bases = m.bases;
+    lifts = m.lifts;
+    is_scaled = true;
+    first = 0;
+    last = l.task.plan.spectra;
+  }
   pub scales : HeldScales l l.held l.task.plan.spectra m.gains m.bases m.lifts

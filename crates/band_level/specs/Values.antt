@@ -21,8 +21,8 @@ abbrev pub word_at : Format → List ℕ → ℕ → ℕ
 word_at f bytes j =
     if f.bits == 16
     then (if f.high_byte_first
-      then 256 * slice_index bytes (2 * j) + slice_index bytes (2 * j + 1)
-      else slice_index bytes (2 * j) + 256 * slice_index bytes (2 * j + 1))
+    then 256 * slice_index bytes (2 * j) + slice_index bytes (2 * j + 1)
+    else slice_index bytes (2 * j) + 256 * slice_index bytes (2 * j + 1))
     else slice_index bytes j
 
 -- Value j of the bytes; with a sign it is counted from the least one on. Levelling takes the mean of each cell away, so
@@ -31,8 +31,8 @@ abbrev pub value_at : Format → List ℕ → ℕ → ℕ
 value_at f bytes j =
     if f.signed
     then (if f.bits == 16
-      then (word_at f bytes j + 32768) % 65536
-      else (word_at f bytes j + 128) % 256)
+    then (word_at f bytes j + 32768) % 65536
+    else (word_at f bytes j + 128) % 256)
     else word_at f bytes j
 
 -- the value of cell i of spectrum t: the sum over neighbouring spectra

@@ -75,8 +75,8 @@ impl Model for Leveller {
       stretch : StretchFits l.format l.plan l.spectrum l.held.items l.filled l.first l.last;
       scales : ScalesFit (cells l.format) l.gains.items l.bases.items l.lifts.items;
       space : AreLong (cells l.format) l.row.items l.lows.items l.highs.items l.counts.items
-        l.totals.items l.squares.items;
-      piece : PieceFits l.format l.plan l.fractions.items l.levels.items l.piece.items l.made
+          l.totals.items l.squares.items;
+      piece : PieceFits l.format l.plan l.fractions.items l.levels.items l.piece.items l.made;
     } };
 }
 

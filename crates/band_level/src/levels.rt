@@ -30,9 +30,7 @@ pub fn level_row(
     for i in 0..row.len() {
         let units = bases[i] + gains[i] * u64::from(row[i]) + fractions[i];
         fractions[i] = units % UNIT;
-        levels[i] = (units / UNIT)
-            .saturating_sub(lifts[i])
-            .min(u64::from(most)) as u32;
+        levels[i] = (units / UNIT).saturating_sub(lifts[i]).min(u64::from(most)) as u32;
     }
 }
 

@@ -2,6 +2,7 @@
 #![tactic(auto)]
 
 mod format;
+mod laws;
 mod leveller;
 mod levels;
 mod measure;
@@ -12,5 +13,6 @@ mod scale;
 mod spectra;
 
 pub use format::Format;
+pub use laws::means_are_kept;
 pub use leveller::Leveller;
 pub use plan::Plan;

@@ -15,13 +15,7 @@ use crate::plan::Plan;
 use crate::scale::{Moments, near_bounds, scale_of_cell};
 
 // Bounds of what lies near the mean of each cell.
-fn set_bounds(
-    counts: &[u32],
-    totals: &[u64],
-    squares: &[u64],
-    lows: &mut [u32],
-    highs: &mut [u32],
-)
+fn set_bounds(counts: &[u32], totals: &[u64], squares: &[u64], lows: &mut [u32], highs: &mut [u32])
     requires totals { length totals.now ≡ length counts.now }
     requires squares { length squares.now ≡ length counts.now }
     requires lows { length lows.old ≡ length counts.now }
@@ -136,7 +130,7 @@ pub fn measure(
     ensures fit { ScalesFit (cells format) gains.new bases.new lifts.new }
     ensures scales { HoldScales (cells format)
         (λ i. scale_of plan (marks_cell masked.now format.polarisations i)
-          (fair_moments (column (cell_value format bytes.now) count i)))
+        (fair_moments (column (cell_value format bytes.now) count i)))
         gains.new bases.new lifts.new }
 {
     lows.fill(0);
@@ -147,12 +141,28 @@ pub fn measure(
     set_bounds(counts, totals, squares, lows, highs);
     let polarisations = format.polarisations;
     set_scales(
-        plan, masked, polarisations, counts, totals, squares, gains, bases, lifts,
+        plan,
+        masked,
+        polarisations,
+        counts,
+        totals,
+        squares,
+        gains,
+        bases,
+        lifts,
     );
     add_up(
         bytes, format, count, row, lows, highs, counts, totals, squares,
     );
     set_scales(
-        plan, masked, polarisations, counts, totals, squares, gains, bases, lifts,
+        plan,
+        masked,
+        polarisations,
+        counts,
+        totals,
+        squares,
+        gains,
+        bases,
+        lifts,
     );
 }

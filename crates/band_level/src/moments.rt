@@ -11,7 +11,6 @@ use crate::row::read_row;
 #[inline(always)]
 fn kept(low: u32, high: u32, x: u32) -> u32
     ensures kept { result ≡ part_of low high x x }
-    ensures square { result * result ≡ part_of low high x (x * x) }
     ensures most { result ≤ x }
 {
     if low <= x && x <= high { x } else { 0 }
@@ -26,35 +25,36 @@ fn one(low: u32, high: u32, x: u32) -> u32
     if low <= x && x <= high { 1 } else { 0 }
 }
 
-// Counts the values of a row that lie between the bounds.
-fn add_counts(row: &[u32], lows: &[u32], highs: &[u32], counts: &mut [u32])
-    requires lows { length lows.now ≡ length row.now }
-    requires highs { length highs.now ≡ length row.now }
-    requires counts { length counts.old ≡ length row.now }
+// Counts the values of a row that lie between the bounds, and sets the others to 0.
+fn keep_row(row: &mut [u32], lows: &[u32], highs: &[u32], counts: &mut [u32])
+    requires lows { length lows.now ≡ length row.old }
+    requires highs { length highs.now ≡ length row.old }
+    requires counts { length counts.old ≡ length row.old }
     requires small { (i : ℕ) → slice_index counts.old i ≤ 1048575 }
-    ensures { (i : ℕ) → i < length row.now → slice_index counts.new i
+    ensures keeps { (i : ℕ) → i < length row.old → slice_index row.new i
+        ≡ part_of (slice_index lows.now i) (slice_index highs.now i) (slice_index row.old i)
+        (slice_index row.old i) }
+    ensures counts { (i : ℕ) → i < length row.old → slice_index counts.new i
         ≡ slice_index counts.old i
-        + part_of (slice_index lows.now i) (slice_index highs.now i) (slice_index row.now i) 1 }
+        + part_of (slice_index lows.now i) (slice_index highs.now i) (slice_index row.old i) 1 }
+    ensures fewer { (i : ℕ) → slice_index row.new i ≤ slice_index row.old i }
 {
     for i in 0..row.len() {
         counts[i] += one(lows[i], highs[i], row[i]);
+        row[i] = kept(lows[i], highs[i], row[i]);
     }
 }
 
-// Adds those values.
-fn add_totals(row: &[u32], lows: &[u32], highs: &[u32], totals: &mut [u64])
-    requires lows { length lows.now ≡ length row.now }
-    requires highs { length highs.now ≡ length row.now }
+// Adds the values of a row.
+fn add_totals(row: &[u32], totals: &mut [u64])
     requires totals { length totals.old ≡ length row.now }
     requires values { (i : ℕ) → slice_index row.now i ≤ 4194303 }
     requires small { (i : ℕ) → slice_index totals.old i ≤ 1048575 * 4194303 }
     ensures { (i : ℕ) → i < length row.now → slice_index totals.new i
-        ≡ slice_index totals.old i
-        + part_of (slice_index lows.now i) (slice_index highs.now i) (slice_index row.now i)
-          (slice_index row.now i) }
+        ≡ slice_index totals.old i + slice_index row.now i }
 {
     for i in 0..row.len() {
-        totals[i] += u64::from(kept(lows[i], highs[i], row[i]));
+        totals[i] += u64::from(row[i]);
     }
 }
 
@@ -69,46 +69,42 @@ fn square(x: u32) -> u64
 }
 
 // Adds their squares.
-fn add_squares(row: &[u32], lows: &[u32], highs: &[u32], squares: &mut [u64])
-    requires lows { length lows.now ≡ length row.now }
-    requires highs { length highs.now ≡ length row.now }
+fn add_squares(row: &[u32], squares: &mut [u64])
     requires squares { length squares.old ≡ length row.now }
     requires values { (i : ℕ) → slice_index row.now i ≤ 4194303 }
     requires small { (i : ℕ) → slice_index squares.old i ≤ 1048575 * 17592177655809 }
     ensures { (i : ℕ) → i < length row.now → slice_index squares.new i
-        ≡ slice_index squares.old i
-        + part_of (slice_index lows.now i) (slice_index highs.now i) (slice_index row.now i)
-          (slice_index row.now i * slice_index row.now i) }
+        ≡ slice_index squares.old i + slice_index row.now i * slice_index row.now i }
 {
     for i in 0..row.len() {
-        squares[i] += square(kept(lows[i], highs[i], row[i]));
+        squares[i] += square(row[i]);
     }
 }
 
-// Adds a row of values to the sums.
+// Adds a row of values to the sums; of the row it leaves those that were added.
 fn add_row(
-    row: &[u32],
+    row: &mut [u32],
     lows: &[u32],
     highs: &[u32],
     counts: &mut [u32],
     totals: &mut [u64],
     squares: &mut [u64],
 )
-    requires lows { length lows.now ≡ length row.now }
-    requires highs { length highs.now ≡ length row.now }
-    requires counts { length counts.old ≡ length row.now }
-    requires totals { length totals.old ≡ length row.now }
-    requires squares { length squares.old ≡ length row.now }
-    requires values { (i : ℕ) → slice_index row.now i ≤ 4194303 }
+    requires lows { length lows.now ≡ length row.old }
+    requires highs { length highs.now ≡ length row.old }
+    requires counts { length counts.old ≡ length row.old }
+    requires totals { length totals.old ≡ length row.old }
+    requires squares { length squares.old ≡ length row.old }
+    requires values { (i : ℕ) → slice_index row.old i ≤ 4194303 }
     requires small { AreSmall 1048575 counts.old totals.old squares.old }
-    ensures adds { AddsRow lows.now highs.now row.now counts.old totals.old squares.old
+    ensures adds { AddsRow lows.now highs.now row.old counts.old totals.old squares.old
         counts.new totals.new squares.new }
     ensures small { (n : ℕ) → AreSmall n counts.old totals.old squares.old
         → AreSmall (n + 1) counts.new totals.new squares.new }
 {
-    add_counts(row, lows, highs, counts);
-    add_totals(row, lows, highs, totals);
-    add_squares(row, lows, highs, squares);
+    keep_row(row, lows, highs, counts);
+    add_totals(row, totals);
+    add_squares(row, squares);
 }
 
 /// Makes the sums of `count` spectra. The row is working space.

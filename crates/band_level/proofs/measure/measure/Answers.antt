@@ -19,8 +19,8 @@ returns-clause-scales c =
     let long : length c.add_up.new.counts ≡ cells c.args.format = omega arith in
     let again : length c.add_up-2.new.counts ≡ cells c.args.format = omega arith in
     let near : AreNear (cells c.args.format) c.add_up.new.counts c.add_up.new.totals c.add_up.new.squares
-        c.set_bounds.new.lows c.set_bounds.new.highs = subst (λ (n : ℕ). AreNear n c.add_up.new.counts c.add_up.new.totals c.add_up.new.squares
-        c.set_bounds.new.lows c.set_bounds.new.highs) long c.set_bounds.ensures in
+    c.set_bounds.new.lows c.set_bounds.new.highs = subst (λ (n : ℕ). AreNear n c.add_up.new.counts c.add_up.new.totals c.add_up.new.squares
+    c.set_bounds.new.lows c.set_bounds.new.highs) long c.set_bounds.ensures in
     fair_scales c.args.plan (marks_cell c.args.masked.now c.args.format.polarisations)
     (cell_value c.args.format c.args.bytes.now) (cells c.args.format) c.args.count
     _ _ _ _ _ _ _ _ _ _ _ _ _ _ _ _ _ _ _

@@ -1,9 +1,7 @@
 use Rattle.std.proofs.Common.{◌+◌, ◌*◌, slice_index}
-use Rattle.band_level.specs.Columns.{part_of}
 use Rattle.band_level.proofs.Fills.{Fills}
 use Rattle.band_level.proofs.moments.add_squares.Given as goal
 
 abbrev pub invariant-loop-i : goal.invariant-loop-i
-invariant-loop-i l = Fills l.initial.squares l.squares l.i (λ i. slice_index l.initial.squares i
-    + part_of (slice_index l.lows i) (slice_index l.highs i) (slice_index l.row i)
-      (slice_index l.row i * slice_index l.row i))
+invariant-loop-i l =
+    Fills l.initial.squares l.squares l.i (λ i. slice_index l.initial.squares i + slice_index l.row i * slice_index l.row i)

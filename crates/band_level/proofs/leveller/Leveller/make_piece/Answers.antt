@@ -33,9 +33,9 @@ level_spectra-requires-clause-inside c =
     let size : f.last * f.spectrum ≡ f.last * spectrum_bytes f.format = ap (λ n. f.last * n) s.spectrum_is in
     let fits = s.inside in
     let long = length-take-le f.filled c.as_slice.result.now
-        (let within = s.filled_in in omega (arith, ap length c.as_slice.ensures.value)) in
+    (let within = s.filled_in in omega (arith, ap length c.as_slice.ensures.value)) in
     let part = inside_of f.first c.min-count.result f.last (spectrum_bytes f.format) f.filled
-        (let order = s.order in omega arith) (omega arith) in
+    (let order = s.order in omega arith) (omega arith) in
     omega arith
 
 pub level_spectra-requires-clause-room : goal.level_spectra-requires-clause-room
@@ -46,7 +46,7 @@ level_spectra-requires-clause-room c =
     let wide : c.len.result * (f.plan.bits / 8) ≡ written_bytes f.format f.plan =
     ap (λ n. n * (f.plan.bits / 8)) (c.len.ensures ∙ row) in
     let room = room_for c.min-count.result c.len-2.result (c.len.result * (f.plan.bits / 8)) (written_bytes f.format f.plan)
-        wide (omega arith) in
+    wide (omega arith) in
     omega (arith, c.len-2.ensures, c.as_mut_slice-4.ensures.len)
 
 pub invariant_of-self : goal.invariant_of-self
@@ -59,14 +59,14 @@ invariant_of-self c =
     let piece_long : f.piece.len ≡ length f.piece.items =
     sym c.as_mut_slice-4.ensures.len ∙ ap length c.as_mut_slice-4.ensures.value in
     let fr = written c.level_spectra.new.fractions f.fractions.items f.fractions.len
-        (c.level_spectra.auto.fractions ∙ c.as_mut_slice.ensures.len) in
+    (c.level_spectra.auto.fractions ∙ c.as_mut_slice.ensures.len) in
     let wide : c.len.result * (f.plan.bits / 8) ≡ written_bytes f.format f.plan =
     ap (λ n. n * (f.plan.bits / 8)) (c.len.ensures ∙ row) in
     let part : c.min-count.result * (c.len.result * (f.plan.bits / 8)) ≤ c.len-2.result =
     room_for c.min-count.result c.len-2.result (c.len.result * (f.plan.bits / 8)) (c.len.result * (f.plan.bits / 8))
-        refl (omega arith) in
+    refl (omega arith) in
     let long = long_written c.level_spectra.new.out f.piece.items f.piece.len (length f.piece.items)
-        (c.level_spectra.auto.out ∙ c.as_mut_slice-4.ensures.len) piece_long in
+    (c.level_spectra.auto.out ∙ c.as_mut_slice-4.ensures.len) piece_long in
     record {
       task = c.self.invariant.task;
       stretch = c.self.invariant.stretch;
@@ -118,14 +118,14 @@ returns-clause-makes c =
     let wide : c.len.result * (f.plan.bits / 8) ≡ written_bytes f.format f.plan =
     ap (λ n. n * (f.plan.bits / 8)) (c.len.ensures ∙ row) in
     let fr = written c.level_spectra.new.fractions f.fractions.items f.fractions.len
-        (c.level_spectra.auto.fractions ∙ c.as_mut_slice.ensures.len) in
+    (c.level_spectra.auto.fractions ∙ c.as_mut_slice.ensures.len) in
     let out = written c.level_spectra.new.out f.piece.items f.piece.len
-        (c.level_spectra.auto.out ∙ c.as_mut_slice-4.ensures.len) in
+    (c.level_spectra.auto.out ∙ c.as_mut_slice-4.ensures.len) in
     let order = c.self.invariant.stretch.order in
     makes_piece _ c.args.self.now c.min-count.result _ _ c.self.view_is (omega arith)
     (levels_in f.format f.plan _ _ _ _ _ _ _ _ _ _ _ _ _ _ f.first c.min-count.result
     (ap (λ (xs : List ℕ). take f.filled xs) c.as_slice.ensures.value) c.as_slice-2.ensures.value
     c.as_slice-3.ensures.value c.as_slice-4.ensures.value c.as_mut_slice.ensures.value (sym fr)
     (ap (λ n. take (c.min-count.result * n) c.level_spectra.new.out) (sym wide)
-      ∙ ap (λ (xs : List ℕ). take (c.min-count.result * (c.len.result * (f.plan.bits / 8))) xs) (sym out))
+    ∙ ap (λ (xs : List ℕ). take (c.min-count.result * (c.len.result * (f.plan.bits / 8))) xs) (sym out))
     c.level_spectra.ensures.levels)

@@ -11,11 +11,11 @@ pub invariant_of-self : goal.invariant_of-self
 invariant_of-self c =
     let space = c.self.invariant.space in
     let g = written c.measure.new.gains c.self.inside.gains.items c.self.inside.gains.len
-        (c.measure.auto.gains ∙ c.as_mut_slice-7.ensures.len) in
+    (c.measure.auto.gains ∙ c.as_mut_slice-7.ensures.len) in
     let b = written c.measure.new.bases c.self.inside.bases.items c.self.inside.bases.len
-        (c.measure.auto.bases ∙ c.as_mut_slice-8.ensures.len) in
+    (c.measure.auto.bases ∙ c.as_mut_slice-8.ensures.len) in
     let l = written c.measure.new.lifts c.self.inside.lifts.items c.self.inside.lifts.len
-        (c.measure.auto.lifts ∙ c.as_mut_slice-9.ensures.len) in
+    (c.measure.auto.lifts ∙ c.as_mut_slice-9.ensures.len) in
     record {
       task = c.self.invariant.task;
       stretch = c.self.invariant.stretch;
@@ -40,11 +40,11 @@ invariant_of-self c =
 pub returns : goal.returns
 returns c =
     let g = written c.measure.new.gains c.self.inside.gains.items c.self.inside.gains.len
-        (c.measure.auto.gains ∙ c.as_mut_slice-7.ensures.len) in
+    (c.measure.auto.gains ∙ c.as_mut_slice-7.ensures.len) in
     let b = written c.measure.new.bases c.self.inside.bases.items c.self.inside.bases.len
-        (c.measure.auto.bases ∙ c.as_mut_slice-8.ensures.len) in
+    (c.measure.auto.bases ∙ c.as_mut_slice-8.ensures.len) in
     let l = written c.measure.new.lifts c.self.inside.lifts.items c.self.inside.lifts.len
-        (c.measure.auto.lifts ∙ c.as_mut_slice-9.ensures.len) in
+    (c.measure.auto.lifts ∙ c.as_mut_slice-9.ensures.len) in
     measures _ c.args.self.now c.args.count _ _ c.measure.new.gains c.measure.new.bases c.measure.new.lifts _ _ _
     c.self.view_is c.as_slice-2.ensures.value
     (ap (λ (xs : List ℕ). take c.self.inside.filled xs) c.as_slice.ensures.value) g b l c.measure.ensures.scales

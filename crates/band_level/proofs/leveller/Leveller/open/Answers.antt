@@ -41,7 +41,7 @@ invariant_of-result c =
     let some = c.requires.plan.some_spectra in
     let least : written_bytes c.args.format c.args.plan ≤ c.max.result * written_bytes c.args.format c.args.plan =
     let same : c.max.result * written_bytes c.args.format c.args.plan
-        ≡ max (262144 / written_bytes c.args.format c.args.plan) 1 * written_bytes c.args.format c.args.plan =
+    ≡ max (262144 / written_bytes c.args.format c.args.plan) 1 * written_bytes c.args.format c.args.plan =
     ap (λ m. m * written_bytes c.args.format c.args.plan) c.max.ensures in
     omega (arith, piece_least 262144 (written_bytes c.args.format c.args.plan)) in
     let piece = zero_long c.in_ok-bytes-2.field-0.items _ c.in_ok-bytes-2.ensures in
