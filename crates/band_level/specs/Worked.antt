@@ -2,7 +2,7 @@
 use Rattle.std.specs.Prelude.{◌≡◌, true, false, [], ◌∷◌, map, refl}
 use Rattle.band_level.specs.Scales.{root}
 use Rattle.band_level.specs.Levelled.{Task, levelled, fine, fine_before, spectrum_levels, first_levels}
-use Rattle.band_level.specs.Moments.{moments, is_near, near_values}
+use Rattle.band_level.specs.Moments.{near_values}
 
 roots : map root (0 ∷ 1 ∷ 3 ∷ 4 ∷ 24 ∷ 25 ∷ 120 ∷ []) ≡ 0 ∷ 1 ∷ 1 ∷ 2 ∷ 4 ∷ 5 ∷ 10 ∷ []
 unfolding root
