@@ -1,12 +1,12 @@
 -- Bands that have their first whole stretches in common.
-use Rattle.std.proofs.Common.{◌≡◌, ℕ, zero, suc, ◌+◌, ◌-◌, ◌*◌, ◌/◌, ◌%◌, ◌<◌, ◌≤◌, ◌++◌, min, inl, inr, List, [], ◌∷◌, map, refl, ◌∙◌, sym, ap, subst, arith}
-use Rattle.std.specs.List.{range_with_len, sum_by, flat_map}
+use Rattle.std.proofs.Common.{◌≡◌, ℕ, zero, suc, ◌+◌, ◌-◌, ◌*◌, ◌/◌, ◌<◌, ◌≤◌, ◌++◌, min, List, ◌∷◌, map, refl, ◌∙◌, sym, ap, arith}
+use Rattle.std.specs.List.{range_with_len, flat_map}
 use Rattle.std.proofs.Math.Nat.{mul-le-mul_right}
-use Rattle.std.proofs.lemmas.Nat.{div-mul-add, div_below, le-div}
+use Rattle.std.proofs.lemmas.Nat.{div_below, le-div}
 use Rattle.band_level.specs.Values.{Band, cells}
 use Rattle.band_level.specs.Moments.{fair_moments}
 use Rattle.band_level.specs.Scales.{Scale, scale_of, unit}
-use Rattle.band_level.specs.Levelled.{Task, is_masked, stretch_values, scale_by, stretch_for, scale_at, fine, fine_before, whole, level, value_bytes, spectrum_levels, first_levels}
+use Rattle.band_level.specs.Levelled.{Task, is_masked, stretch_values, scale_by, stretch_for, scale_at, fine, fine_before, level, value_bytes, spectrum_levels, first_levels}
 use Rattle.band_level.proofs.Shifts.{sums_agree}
 
 -- the first so many whole stretches are the same

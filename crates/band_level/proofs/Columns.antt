@@ -1,9 +1,9 @@
 -- The sums of one spectrum more.
-use Rattle.std.proofs.Common.{◌≡◌, ℕ, ◌+◌, ◌*◌, ◌<◌, ◌≤◌, inl, inr, true, false, cond, List, length, slice_index, replicate, sym, ◌∙◌, ap, refl, arith}
+use Rattle.std.proofs.Common.{◌≡◌, ℕ, ◌+◌, ◌*◌, ◌<◌, ◌≤◌, inl, inr, true, false, cond, List, length, slice_index, sym, ◌∙◌, ap, refl, arith}
 use Rattle.std.proofs.Math.Nat.{mul-le-mul}
 use Rattle.std.proofs.lemmas.Bool.{cases_lt}
 use Rattle.std.proofs.lemmas.List.{get_or_past}
-use Rattle.band_level.specs.Columns.{AddsRow, AreSums, AreSmall, part_of, is_between, counted}
+use Rattle.band_level.specs.Columns.{AddsRow, AreSums, AreSmall, part_of, is_between}
 use Rattle.band_level.proofs.Ranges.{filtered_sum_more, filtered_length_more}
 
 -- what is added for a value, and for one that is equal

@@ -1,11 +1,11 @@
 -- The beginning and the end of the data.
-use Rattle.std.proofs.Common.{◌≡◌, ℕ, refl, ◌+◌, ◌-◌, ◌*◌, ◌/◌, ◌%◌, ◌<◌, ◌≤◌, ◌⊎◌, min, inl, inr, Bool, true, false, List, [], length, drop, slice_index, ◌∙◌, sym, ap, arith}
+use Rattle.std.proofs.Common.{◌≡◌, ℕ, refl, ◌+◌, ◌*◌, ◌/◌, ◌%◌, ◌<◌, ◌≤◌, inl, inr, true, false, List, [], length, drop, slice_index, ◌∙◌, sym, ap, arith}
 use Rattle.std.proofs.lemmas.Nat.{div-mul-add, div-add-mod', mod_below, div_below}
 use Rattle.band_level.specs.Ranges.{FormatInRange}
-use Rattle.band_level.specs.Values.{Band, cells, spectrum_bytes}
+use Rattle.band_level.specs.Values.{Band, spectrum_bytes}
 use Rattle.band_level.specs.Scales.{unit}
-use Rattle.band_level.specs.Levelled.{Task, stretch_for, fine_before, first_levels, levelled}
-use Rattle.band_level.specs.Levelling.{Levelling, IsAt, StandsFor, Waits, IsWhole, Ends, Levels, IsDone, band_of, pending}
+use Rattle.band_level.specs.Levelled.{Task, fine_before, first_levels}
+use Rattle.band_level.specs.Levelling.{Levelling, IsAt, Waits, Levels, IsDone, band_of, pending}
 use Rattle.band_level.specs.Steps.{HeldScales}
 use Rattle.band_level.proofs.Standing.{held_scales, is_waiting, some_bytes}
 use Rattle.band_level.proofs.Giving.{quotient, short_of}

@@ -1,19 +1,18 @@
 -- Spectra that are levelled, and the end of the data.
-use Rattle.std.proofs.Common.{◌≡◌, ℕ, zero, suc, refl, ◌+◌, ◌-◌, ◌*◌, ◌/◌, ◌%◌, ◌<◌, ◌≤◌, ◌⊎◌, min, inl, inr, Bool, true, false, List, [], ◌++◌, length, drop, slice_index, ◌∙◌, sym, ap, subst, append_assoc, append-nil, arith}
+use Rattle.std.proofs.Common.{◌≡◌, ℕ, zero, suc, refl, ◌+◌, ◌-◌, ◌*◌, ◌/◌, ◌%◌, ◌<◌, ◌≤◌, inl, inr, true, false, List, [], ◌++◌, length, drop, slice_index, ◌∙◌, sym, ap, append_assoc, append-nil, arith}
 use Rattle.std.specs.List.{range_with_len, flat_map}
 use Rattle.std.proofs.Math.Nat.{mul-le-mul, mul-le-mul_right, div-mul-le_self}
 use Rattle.std.proofs.lemmas.List.{drop_all}
-use Rattle.std.proofs.lemmas.Nat.{le-div, div-mul-add, div-add-mod', mod_below, div_below}
+use Rattle.std.proofs.lemmas.Nat.{le-div, div-mul-add}
 use Rattle.psr_base.proofs.Ranges.{flat_map_range_more}
 use Rattle.band_level.specs.Ranges.{FormatInRange}
 use Rattle.band_level.specs.Values.{Band, cells, spectrum_bytes, cell_value}
 use Rattle.band_level.specs.Scales.{unit}
-use Rattle.band_level.specs.Rows.{HoldScales}
-use Rattle.band_level.specs.Levelled.{Task, scale_by, scale_at, stretch_for, fine_before, first_levels, spectrum_levels, levelled}
+use Rattle.band_level.specs.Levelled.{Task, scale_by, stretch_for, fine_before, first_levels, spectrum_levels}
 use Rattle.band_level.specs.Spectra.{AreHeld, AreLevelled, LevelsSpectra}
-use Rattle.band_level.specs.Levelling.{Levelling, IsAt, StandsFor, Waits, IsWhole, Ends, Levels, IsDone, band_of, pending}
+use Rattle.band_level.specs.Levelling.{Levelling, IsAt, StandsFor, IsWhole, Ends, Levels, band_of, pending}
 use Rattle.band_level.proofs.Agreeing.{own_stretch}
-use Rattle.band_level.proofs.Standing.{held_cells, held_scales, is_waiting, some_bytes}
+use Rattle.band_level.proofs.Standing.{held_cells, some_bytes}
 
 -- ---- levels behind others
 

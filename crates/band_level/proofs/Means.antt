@@ -1,6 +1,6 @@
 -- The law on means.
-use Rattle.std.proofs.Common.{◌≡◌, ℕ, zero, suc, refl, ◌+◌, ◌-◌, ◌*◌, ◌/◌, ◌%◌, ◌<◌, ◌≤◌, min, inl, inr, Bool, true, false, cond, eqb, List, [], ◌∷◌, length, map, ◌∙◌, sym, ap, subst, arith}
-use Rattle.std.specs.List.{range_with_len, sum_by, filter, count_by}
+use Rattle.std.proofs.Common.{◌≡◌, ℕ, zero, suc, refl, ◌+◌, ◌-◌, ◌*◌, ◌/◌, ◌<◌, ◌≤◌, min, inl, inr, Bool, true, false, cond, eqb, List, [], ◌∷◌, length, map, ◌∙◌, sym, ap, subst, arith}
+use Rattle.std.specs.List.{range_with_len, sum_by, filter}
 use Rattle.std.proofs.Math.Nat.{mul-div-le, mul-le-mul_right}
 use Rattle.std.proofs.lemmas.Bool.{cases_lt}
 use Rattle.std.proofs.lemmas.Bool.Decides.{nat_tests}
@@ -9,10 +9,9 @@ use Rattle.std.proofs.lemmas.List.Sums.{sum_by-cons, length-filter, count_by-le-
 use Rattle.std.proofs.lemmas.List.FromFn.{length-map-range_with_len}
 use Rattle.band_level.specs.Values.{Band}
 use Rattle.band_level.specs.Moments.{Moments, moments, near_values, fair_moments, is_near, distance}
-use Rattle.band_level.specs.Ranges.{TaskInRange}
-use Rattle.band_level.specs.Scales.{Scale, gain_for, scale_of, scale_for, root, unit}
-use Rattle.band_level.specs.Levelled.{Task, is_masked, stretch_values, scale_by, scale_at, stretch_for, fine, fine_before, whole, level}
-use Rattle.band_level.specs.Laws.{IsUncut, MeansAreKept}
+use Rattle.band_level.specs.Scales.{Scale, scale_of}
+use Rattle.band_level.specs.Levelled.{Task, is_masked, stretch_values, scale_by, scale_at, fine, fine_before, whole, level}
+use Rattle.band_level.specs.Laws.{MeansAreKept}
 use Rattle.band_level.proofs.Ranges.{sum_range_more_from}
 use Rattle.band_level.proofs.Agreeing.{own_stretch}
 use Rattle.band_level.proofs.Giving.{quotient}

@@ -5,7 +5,7 @@ use Rattle.std.proofs.Math.Nat.{mul-le-mul_right}
 use Rattle.std.proofs.lemmas.List.Sums.{sum_by-cons}
 use Rattle.band_level.specs.declared.format.Format.{Format}
 use Rattle.band_level.specs.Ranges.{FormatInRange}
-use Rattle.band_level.specs.Values.{cells, spectrum_bytes, word_at, value_at, cell_value}
+use Rattle.band_level.specs.Values.{cells, spectrum_bytes, value_at, cell_value}
 use Rattle.band_level.proofs.Values.{read_inside}
 
 -- sums over a range that agree at each number

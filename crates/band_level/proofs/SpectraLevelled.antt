@@ -1,16 +1,15 @@
 -- A spectrum that is levelled, and one more.
-use Rattle.std.proofs.Common.{◌≡◌, ℕ, zero, suc, ◌+◌, ◌-◌, ◌*◌, ◌/◌, ◌%◌, ◌<◌, ◌≤◌, ◌++◌, min, List, [], ◌∷◌, length, take, map, slice_index, refl, sym, ◌∙◌, ap, subst, Bool, append_assoc, append-nil, arith}
+use Rattle.std.proofs.Common.{◌≡◌, ℕ, zero, suc, ◌+◌, ◌-◌, ◌*◌, ◌/◌, ◌%◌, ◌<◌, ◌++◌, min, List, [], length, take, map, slice_index, refl, sym, ◌∙◌, ap, subst, append_assoc, append-nil, arith}
 use Rattle.std.specs.List.{range_with_len, flat_map}
-use Rattle.std.proofs.lemmas.List.FromFn.{fill_by_all, length-map-range_with_len}
-use Rattle.std.proofs.lemmas.List.Concat.{flat_map-append}
+use Rattle.std.proofs.lemmas.List.FromFn.{fill_by_all}
 use Rattle.psr_base.proofs.Ranges.{flat_map_range_more}
 use Rattle.band_level.specs.declared.format.Format.{Format}
 use Rattle.band_level.specs.declared.plan.Plan.{Plan}
 use Rattle.band_level.specs.Values.{Band, cells, cell_value}
 use Rattle.band_level.specs.Scales.{Scale, unit}
 use Rattle.band_level.specs.Levelled.{Task, scale_at, fine, fine_before, whole, level, value_bytes, spectrum_levels}
-use Rattle.band_level.specs.Rows.{LevelsRow, HoldScales, scale_held, units_at}
-use Rattle.band_level.specs.Spectra.{AreHeld, AreLevelled, Carried, LevelsSpectra, task_of}
+use Rattle.band_level.specs.Rows.{LevelsRow, HoldScales, units_at}
+use Rattle.band_level.specs.Spectra.{AreHeld, Carried, LevelsSpectra, task_of}
 use Rattle.band_level.proofs.Ranges.{sum_range_more}
 
 -- what all spectra before have, and one more

@@ -1,23 +1,23 @@
 -- What a leveller stands for, from call to call.
-use Rattle.std.proofs.Common.{◌≡◌, ℕ, refl, ◌+◌, ◌-◌, ◌*◌, ◌/◌, ◌%◌, ◌<◌, ◌≤◌, ◌⊎◌, min, inl, inr, Bool, true, false, List, [], ◌∷◌, ◌++◌, length, map, drop, slice_index, ◌∙◌, sym, ap, subst, arith, length-append}
-use Rattle.std.specs.List.{range_with_len, flat_map, sum_by}
+use Rattle.std.proofs.Common.{◌≡◌, ℕ, refl, ◌+◌, ◌*◌, ◌/◌, ◌%◌, ◌<◌, ◌≤◌, min, inl, inr, Bool, true, false, List, ◌++◌, length, map, slice_index, ◌∙◌, sym, ap, arith, length-append}
+use Rattle.std.specs.List.{range_with_len}
 use Rattle.std.proofs.Math.Nat.{mul-le-mul, mul-le-mul_right}
-use Rattle.std.proofs.lemmas.Nat.{le-div, div-mul-add, div-add-mod', mod_below}
+use Rattle.std.proofs.lemmas.Nat.{le-div}
 use Rattle.std.proofs.lemmas.List.{get_or_append_left, get_or-drop, drop-append-le}
 use Rattle.band_level.specs.declared.format.Format.{Format}
 use Rattle.band_level.specs.declared.plan.Plan.{Plan}
 use Rattle.band_level.specs.Ranges.{FormatInRange, PlanInRange}
-use Rattle.band_level.specs.Values.{Band, band, cells, spectrum_bytes, cell_value}
+use Rattle.band_level.specs.Values.{band, cells, spectrum_bytes, cell_value}
 use Rattle.band_level.specs.Moments.{fair_moments}
 use Rattle.band_level.specs.Columns.{column}
 use Rattle.band_level.specs.Scales.{scale_of, unit}
-use Rattle.band_level.specs.Rows.{HoldScales, scale_held}
-use Rattle.band_level.specs.Levelled.{Task, is_masked, stretch_values, scale_by, scale_at, stretch_for, fine_before, first_levels, spectrum_levels, levelled}
+use Rattle.band_level.specs.Rows.{HoldScales}
+use Rattle.band_level.specs.Levelled.{Task, is_masked, stretch_values, scale_by, fine_before, first_levels}
 use Rattle.band_level.specs.Spectra.{written_bytes}
-use Rattle.band_level.specs.Levelling.{Levelling, IsAt, StandsFor, Waits, IsWhole, Ends, Levels, band_of, pending}
+use Rattle.band_level.specs.Levelling.{Levelling, IsAt, StandsFor, Waits, Levels, band_of, pending}
 use Rattle.band_level.specs.Steps.{HeldScales}
 use Rattle.band_level.proofs.Shifts.{cell_shift}
-use Rattle.band_level.proofs.Agreeing.{Agree, before_agrees, levels_agree, scales_agree, maps_agree, own_stretch}
+use Rattle.band_level.proofs.Agreeing.{Agree, before_agrees, levels_agree, scales_agree, maps_agree}
 
 -- ---- sizes
 

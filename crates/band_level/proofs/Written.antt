@@ -1,5 +1,5 @@
 -- Lists that were written as slices.
-use Rattle.std.proofs.Common.{◌≡◌, ℕ, ◌+◌, ◌++◌, ◌*◌, ◌/◌, ◌<◌, ◌≤◌, inl, inr, max, [], List, replicate, subst, sym, length, take, drop, slice_index, ◌∙◌, ap, arith}
+use Rattle.std.proofs.Common.{◌≡◌, ℕ, ◌+◌, ◌++◌, ◌*◌, ◌/◌, ◌≤◌, inl, inr, max, [], List, replicate, subst, length, take, drop, slice_index, ◌∙◌, ap, arith}
 use Rattle.std.proofs.Math.Nat.{mul-le-mul_right, div-mul-le_self}
 use Rattle.std.proofs.lemmas.Bool.{cases_lt}
 use Rattle.std.proofs.lemmas.List.{take_at, get_or_past, get_or-replicate}
@@ -8,7 +8,7 @@ use Rattle.band_level.specs.declared.format.Format.{Format}
 use Rattle.band_level.specs.declared.plan.Plan.{Plan}
 use Rattle.band_level.specs.Spectra.{LevelsSpectra}
 use Rattle.band_level.specs.Scales.{Scale}
-use Rattle.band_level.specs.Rows.{HoldScales, ScalesFit, scale_held}
+use Rattle.band_level.specs.Rows.{HoldScales, ScalesFit}
 use Rattle.band_level.proofs.Scales.{scales_same}
 
 -- a list that was written whole

@@ -1,6 +1,6 @@
 -- The law on means; a function of this crate carries it.
 -- Source: this project's choice.
-use Rattle.std.specs.Prelude.{ℕ, ◌≡◌, ◌+◌, ◌-◌, ◌*◌, ◌/◌, ◌<◌, ◌≤◌, length, sum_by}
+use Rattle.std.specs.Prelude.{ℕ, ◌≡◌, ◌+◌, ◌*◌, ◌<◌, ◌≤◌, sum_by}
 use Rattle.std.specs.List.{range_with_len}
 use Rattle.band_level.specs.Values.{Band}
 use Rattle.band_level.specs.Moments.{fair_moments, distance}

@@ -1,6 +1,6 @@
 -- What contracts see of a leveller, and the bytes that it stands for.
 -- Source: this project's choice.
-use Rattle.std.specs.Prelude.{ℕ, ◌≡◌, ◌+◌, ◌-◌, ◌*◌, ◌/◌, ◌%◌, ◌<◌, ◌≤◌, ◌⊎◌, ◌++◌, Bool, true, false, List, length, drop, slice_index}
+use Rattle.std.specs.Prelude.{ℕ, ◌≡◌, ◌+◌, ◌-◌, ◌*◌, ◌%◌, ◌<◌, ◌≤◌, ◌⊎◌, ◌++◌, Bool, true, false, List, length, drop, slice_index}
 use Rattle.band_level.specs.Values.{Band, band, cells, spectrum_bytes}
 use Rattle.band_level.specs.Scales.{unit}
 use Rattle.band_level.specs.Rows.{HoldScales}

@@ -11,3 +11,4 @@ pub mod Sizes
 pub mod Rows
 pub mod Sound
 pub mod Spectra
+pub mod Worked

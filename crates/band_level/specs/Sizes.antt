@@ -1,6 +1,6 @@
 -- How large moments and scales may be.
 -- Source: this project's choice.
-use Rattle.std.specs.Prelude.{ℕ, ◌≡◌, ◌*◌, ◌^◌, ◌<◌, ◌≤◌}
+use Rattle.std.specs.Prelude.{◌≡◌, ◌*◌, ◌≤◌}
 use Rattle.band_level.specs.declared.scale.Moments.{Moments as MomentsHeld}
 use Rattle.band_level.specs.declared.scale.Scale.{Scale as ScaleHeld}
 use Rattle.band_level.specs.Moments.{Moments}

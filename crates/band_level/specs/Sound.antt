@@ -1,11 +1,10 @@
 -- What always holds of a leveller.
 -- Source: this project's choice.
-use Rattle.std.specs.Prelude.{ℕ, ◌≡◌, ◌+◌, ◌*◌, ◌/◌, ◌<◌, ◌≤◌, Bool, List, length, slice_index}
+use Rattle.std.specs.Prelude.{ℕ, ◌≡◌, ◌*◌, ◌<◌, ◌≤◌, Bool, List, length, slice_index}
 use Rattle.band_level.specs.declared.format.Format.{Format}
 use Rattle.band_level.specs.declared.plan.Plan.{Plan}
 use Rattle.band_level.specs.Values.{cells, spectrum_bytes}
 use Rattle.band_level.specs.Scales.{unit}
-use Rattle.band_level.specs.Rows.{AreLong, ScalesFit}
 use Rattle.band_level.specs.Spectra.{written_bytes}
 use Rattle.band_level.specs.Ranges.{FormatInRange, PlanInRange}
 

@@ -1,6 +1,6 @@
 -- What the steps of a leveller leave.
 -- Source: this project's choice.
-use Rattle.std.specs.Prelude.{ℕ, ◌≡◌, ◌+◌, ◌*◌, ◌<◌, ◌≤◌, true, List, [], length}
+use Rattle.std.specs.Prelude.{ℕ, ◌≡◌, ◌+◌, ◌*◌, ◌≤◌, true, List, []}
 use Rattle.band_level.specs.Values.{cells, spectrum_bytes, cell_value}
 use Rattle.band_level.specs.Moments.{fair_moments}
 use Rattle.band_level.specs.Columns.{column}

@@ -1,7 +1,7 @@
 -- The values of data bytes.
 -- Source: PSRDADA manual, on the data after a header (one spectrum after another). The order of bytes, the sign and the
 -- order of the polarisations are this project's profile.
-use Rattle.std.specs.Prelude.{ℕ, ◌+◌, ◌*◌, ◌/◌, ◌%◌, ◌==◌, List, length, map, sum_by, slice_index, if◌then◌else◌}
+use Rattle.std.specs.Prelude.{ℕ, ◌+◌, ◌*◌, ◌/◌, ◌%◌, ◌==◌, List, length, sum_by, slice_index, if◌then◌else◌}
 use Rattle.std.specs.List.{range_with_len}
 use Rattle.band_level.specs.declared.format.Format.{Format}
 

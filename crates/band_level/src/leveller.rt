@@ -185,10 +185,10 @@ impl Leveller {
         ensures { Begins self.old self.new }
     {
         self.bounds();
-        let count = self.plan.spectra as usize;
-        self.measure(count);
+        let all = self.plan.spectra as usize;
+        self.measure(all);
         self.first = 0;
-        self.last = count;
+        self.last = all;
     }
 
     // Makes the scales of the first spectra that are held.

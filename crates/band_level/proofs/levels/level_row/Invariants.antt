@@ -1,4 +1,4 @@
-use Rattle.std.proofs.Common.{ℕ, ◌≡◌, ◌-◌, ◌/◌, ◌%◌, ◌<◌, ◌≤◌, min, slice_index}
+use Rattle.std.proofs.Common.{◌-◌, ◌/◌, ◌%◌, min, slice_index}
 use Rattle.band_level.specs.Scales.{unit}
 use Rattle.band_level.specs.Rows.{units_at}
 use Rattle.band_level.proofs.Fills.{Fills}

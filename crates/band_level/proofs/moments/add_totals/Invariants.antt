@@ -1,4 +1,4 @@
-use Rattle.std.proofs.Common.{◌+◌, ◌*◌, slice_index}
+use Rattle.std.proofs.Common.{◌+◌, slice_index}
 use Rattle.band_level.proofs.Fills.{Fills}
 use Rattle.band_level.proofs.moments.add_totals.Given as goal
 

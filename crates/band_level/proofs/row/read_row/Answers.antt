@@ -1,4 +1,4 @@
-use Rattle.std.proofs.Common.{◌≡◌, ◌+◌, ◌∙◌, sym, ap, arith}
+use Rattle.std.proofs.Common.{arith}
 use Rattle.band_level.specs.Values.{read_bytes}
 use Rattle.band_level.proofs.Values.{read_inside, part_more}
 use Rattle.band_level.proofs.row.read_row.Goals as goal

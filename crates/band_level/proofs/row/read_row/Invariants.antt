@@ -1,4 +1,4 @@
-use Rattle.std.proofs.Common.{ℕ, ◌≡◌, ◌+◌, ◌*◌, ◌<◌, ◌≤◌, slice_index, length}
+use Rattle.std.proofs.Common.{ℕ, ◌≡◌, ◌*◌, ◌<◌, ◌≤◌, slice_index}
 use Rattle.band_level.specs.Values.{cells}
 use Rattle.band_level.proofs.Values.{part_value}
 use Rattle.band_level.proofs.row.read_row.Given as goal

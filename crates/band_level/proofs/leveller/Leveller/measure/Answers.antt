@@ -1,9 +1,5 @@
-use Rattle.std.proofs.Common.{◌≡◌, ℕ, List, refl, length, take, drop, ◌++◌, ◌∙◌, sym, ap, subst, arith}
-use Rattle.band_level.specs.Values.{cells}
-use Rattle.band_level.specs.Rows.{ScalesFit}
-use Rattle.band_level.specs.Levelling.{Levelling}
-use Rattle.band_level.specs.Steps.{Measures}
-use Rattle.band_level.proofs.Written.{written, long_written, scales_in}
+use Rattle.std.proofs.Common.{ℕ, List, length, take, ◌∙◌, sym, ap}
+use Rattle.band_level.proofs.Written.{written, long_written}
 use Rattle.band_level.proofs.Stepping.{measures}
 use Rattle.band_level.proofs.leveller.Leveller.measure.Goals as goal
 

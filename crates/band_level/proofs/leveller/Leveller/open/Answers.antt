@@ -1,11 +1,10 @@
-use Rattle.std.proofs.Common.{◌≡◌, ℕ, refl, ◌+◌, ◌*◌, ◌/◌, ◌<◌, ◌≤◌, ◌^◌, inl, inr, max, length, ◌∙◌, ap, arith}
-use Rattle.std.proofs.Math.Nat.{mul-le-mul, mul-le-mul_right}
+use Rattle.std.proofs.Common.{◌≡◌, ℕ, refl, ◌*◌, ◌/◌, ◌<◌, ◌≤◌, ◌^◌, inl, inr, max, length, ◌∙◌, ap, arith}
+use Rattle.std.proofs.Math.Nat.{mul-le-mul}
 use Rattle.band_level.specs.declared.format.Format.{Format}
 use Rattle.band_level.specs.declared.plan.Plan.{Plan}
 use Rattle.band_level.specs.Ranges.{FormatInRange, PlanInRange}
 use Rattle.band_level.specs.Values.{cells}
 use Rattle.band_level.specs.Spectra.{written_bytes}
-use Rattle.band_level.proofs.Standing.{some_written}
 use Rattle.band_level.proofs.Ending.{starts}
 use Rattle.band_level.proofs.Written.{zero_at, zero_long, zero_scales, piece_most, piece_least}
 use Rattle.band_level.proofs.leveller.Leveller.open.Goals as goal
