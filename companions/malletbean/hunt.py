@@ -37,6 +37,7 @@ from .program import Stopped, Words, say
 from .refusal import MEMORY, OUTPUT, WORDS, Refusal, bytes_of
 from .report import write_report
 from .samples import Samples
+from .series import write_candidate_series
 from .settings import Settings, write_settings
 
 # the status where a job failed
@@ -46,6 +47,8 @@ USUAL_WIDEST = 0.032
 USUAL_SNR = 6.5
 # how many candidates get a picture in the report
 MOST_PICTURES = 20
+# of how many the dedispersed series is written
+MOST_SERIES = 5
 MJD_ZERO = np.datetime64("1858-11-17", "ns")
 CONVERTED = "observation.dada"
 
@@ -416,7 +419,8 @@ def failure_line(failure: Failure) -> str:
 def finish(asked: argparse.Namespace, running: Running, seconds: float) -> None:
     """Writes candidates and report, says what was found, and removes what is of no more use."""
     folder = running.folder
-    write_candidates(folder)
+    table = write_candidates(folder)
+    write_candidate_series(folder, table, MOST_SERIES)
     write_report(folder, most=MOST_PICTURES)
     lines = summary_lines(folder, running.hunt, count_lines(running), seconds)
     if not asked.keep:

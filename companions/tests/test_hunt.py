@@ -114,6 +114,8 @@ def test_a_report_is_written_and_what_is_of_no_more_use_goes(observation: str, t
     left = [path for path in (tmp_path / "hunt").rglob("*") if path.suffix in (".dada", ".error", ".out")]
     assert left == [] and not list((tmp_path / "hunt").glob("searches/*/*.text"))
     assert all((tmp_path / "hunt" / name).exists() for name in ("candidates.csv", "report.html"))
+    series = {path.stem for path in (tmp_path / "hunt").glob("averaged*.dat")}
+    assert series and series == {path.stem for path in (tmp_path / "hunt").glob("averaged*.inf")}
 
 
 @needs_search
