@@ -5,7 +5,7 @@ use Rattle.band_level.specs.Ranges.{FormatInRange}
 use Rattle.band_level.specs.Values.{Band, spectrum_bytes}
 use Rattle.band_level.specs.Scales.{unit}
 use Rattle.band_level.specs.Levelled.{Task, fine_before, first_levels}
-use Rattle.band_level.specs.Levelling.{Levelling, IsAt, Waits, Levels, IsDone, band_of, pending}
+use Rattle.band_level.specs.Levelling.{Levelling, IsAt, Waits, Levels, band_of, pending}
 use Rattle.band_level.specs.Steps.{HeldScales}
 use Rattle.band_level.proofs.Standing.{held_scales, is_waiting, some_bytes}
 use Rattle.band_level.proofs.Giving.{quotient, short_of}
@@ -152,17 +152,3 @@ ends_short l count bytes out gains bases lifts range some goes_on none is_count 
       },
       is_out ∙ ap (λ n. first_levels l.task (band_of l bytes) (start + n)) waits.first,
     )
-
--- all is levelled
-pub all_done : (l : Levelling) → l.has_ended ≡ true → pending l ≡ 0 → IsDone l
-all_done l ended none bytes out (start, stretch, stands, is_out) = elim stands.stage [
-  | inl waits ↦ let e : true ≡ false = sym ended ∙ waits.goes_on in absurd (cc)
-  | inr other ↦ elim other [
-    | inl whole ↦ let e : true ≡ false = sym ended ∙ whole.goes_on in absurd (cc)
-    | inr ends ↦
-        let order = stands.order in
-        let last = ends.last in
-        let all : start + l.first ≡ (band_of l bytes).spectra = omega arith in
-        is_out ∙ ap (first_levels l.task (band_of l bytes)) all
-  ]
-]

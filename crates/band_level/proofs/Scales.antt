@@ -1,10 +1,7 @@
--- How large the numbers of a scale are, and how scales are set.
-use Rattle.std.proofs.Common.{◌≡◌, ◌≢◌, ℕ, ◌+◌, ◌-◌, ◌*◌, ◌/◌, ◌<◌, ◌≤◌, List, length, set, slice_index, ◌∙◌, ap, arith, get_or-set_other, get_or-set_same}
+-- How large the numbers of a scale are, and scales with the same numbers.
+use Rattle.std.proofs.Common.{◌≡◌, ℕ, ◌+◌, ◌-◌, ◌*◌, ◌/◌, ◌≤◌, ◌∙◌, ap, arith}
 use Rattle.std.proofs.Math.Nat.{mul-le-mul, mul-le-mul_right, mul-div-le, div-le_of_le-mul}
-use Rattle.band_level.specs.declared.scale.Scale.{Scale as ScaleHeld}
 use Rattle.band_level.specs.Scales.{Scale, most_gain}
-use Rattle.band_level.specs.Rows.{scale_held}
-use Rattle.band_level.specs.Sizes.{IsScaleOf}
 
 abbrev pub scale_with : ℕ → ℕ → ℕ → Scale
 scale_with gain base lift = record { gain = gain; base = base; lift = lift }
@@ -26,22 +23,6 @@ base_most mean count part small =
     let most : mean * count * 1048576 / 1000 ≤ 65535 * (count * 1048576) = div-le_of_le-mul 1000 (omega arith) in
     div-le_of_le-mul count (omega arith)
 
--- ---- scales that are set
-
 pub scales_same : (a b c d e f : ℕ) → a ≡ d → b ≡ e → c ≡ f
     → scale_with a b c ≡ scale_with d e f
 scales_same a b c d e f x y z = ap (λ v. scale_with v b c) x ∙ ap (λ v. scale_with d v c) y ∙ ap (λ v. scale_with d e v) z
-
-pub set_here : (gains bases lifts : List ℕ) (i gain base lift : ℕ) → i < length gains → i < length bases → i < length lifts
-    → scale_held (set gains i gain) (set bases i base) (set lifts i lift) i ≡ scale_with gain base lift
-set_here gains bases lifts i gain base lift g b l =
-    scales_same _ _ _ gain base lift (rw get_or-set_same) (rw get_or-set_same) (rw get_or-set_same)
-
-pub set_beside : (gains bases lifts : List ℕ) (i j gain base lift : ℕ) → j ≢ i
-    → scale_held (set gains i gain) (set bases i base) (set lifts i lift) j ≡ scale_held gains bases lifts j
-set_beside gains bases lifts i j gain base lift ne =
-    scales_same _ _ _ (slice_index gains j) (slice_index bases j) (slice_index lifts j)
-    (rw get_or-set_other) (rw get_or-set_other) (rw get_or-set_other)
-
-pub is_scale : (s : ScaleHeld) (t : Scale) → IsScaleOf s t → scale_with s.gain s.base s.lift ≡ t
-is_scale s t is = scales_same s.gain s.base s.lift t.gain t.base t.lift is.gain is.base is.lift

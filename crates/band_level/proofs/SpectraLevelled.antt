@@ -134,17 +134,6 @@ spectra_more f p held gains bases lifts old mid new before middle after first co
           ∙ ap (λ xs. before ++ xs) (sym (flat_map_range_more (spectrum_levels k b) start count (start + count) refl));
     }
 
--- none
-pub none_levelled : (f : Format) (p : Plan) (held gains bases lifts old before : List ℕ) (first : ℕ)
-    → LevelsSpectra f p held gains bases lifts first 0 old old before before
-none_levelled f p held gains bases lifts old before first masked b start is_held carried =
-    let k = task_of f p masked in
-    let on : start ≡ start + 0 = omega arith in
-    record {
-      carried = subst (λ (t : ℕ). Carried k b t old) on carried;
-      written = sym (append-nil before);
-    }
-
 -- the same for a part of what is written to
 pub spectra_next : (f : Format) (p : Plan) (held gains bases lifts old mid new before middle out : List ℕ)
     (first count m n : ℕ) → m ≡ n

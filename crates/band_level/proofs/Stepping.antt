@@ -1,5 +1,5 @@
 -- The steps of a leveller, joined.
-use Rattle.std.proofs.Common.{◌≡◌, ℕ, refl, ◌+◌, ◌*◌, ◌/◌, ◌<◌, ◌≤◌, ◌⊎◌, inl, inr, Bool, true, false, List, [], ◌++◌, length, ◌∙◌, sym, ap, subst, append-nil, arith}
+use Rattle.std.proofs.Common.{◌≡◌, ℕ, refl, ◌+◌, ◌*◌, ◌/◌, ◌<◌, ◌≤◌, ◌⊎◌, inl, inr, Bool, true, false, List, [], ◌++◌, length, ◌∙◌, sym, ap, subst, arith}
 use Rattle.std.proofs.lemmas.Bool.{cases_lt}
 use Rattle.band_level.specs.Ranges.{FormatInRange}
 use Rattle.band_level.specs.Values.{cells, spectrum_bytes, cell_value}
@@ -9,7 +9,7 @@ use Rattle.band_level.specs.Scales.{scale_of}
 use Rattle.band_level.specs.Rows.{HoldScales}
 use Rattle.band_level.specs.Levelled.{marks_cell}
 use Rattle.band_level.specs.Spectra.{LevelsSpectra}
-use Rattle.band_level.specs.Levelling.{Levelling, Levels, Takes, Gives, EndsAs, pending}
+use Rattle.band_level.specs.Levelling.{Levelling, Takes, Gives, EndsAs, pending}
 use Rattle.band_level.specs.Steps.{HeldScales, Measures, Begins, MakesPiece, stretch_bytes}
 use Rattle.band_level.proofs.Written.{scales_in}
 use Rattle.band_level.proofs.Standing.{takes_short, takes_whole}
@@ -86,14 +86,6 @@ takes_full l mid m piece range some goes_on none is long begins =
       levels = λ bytes out.
           takes_whole l bytes piece out m.gains m.bases m.lifts range some goes_on none all after.scales;
     }
-
--- no bytes
-pub takes_none : (l : Levelling) → Takes l l []
-takes_none l = record {
-  task = refl;
-  ended = refl;
-  levels = λ bytes out levels. subst (λ (xs : List ℕ). Levels l xs out) (sym (append-nil bytes)) levels;
-}
 
 -- ---- spectra that are levelled
 
@@ -215,7 +207,3 @@ module _ (l mid m : Levelling) (count : ℕ) (range : FormatInRange l.task.forma
     | inl there ↦ by_scale l.is_scaled refl there
     | inr nothing ↦ ends_with (λ h. absurd (omega arith)) (kept (inl (omega arith)))
   ]
-
--- an end that was told before
-pub ended_before : (l : Levelling) → l.has_ended ≡ true → EndsAs l l
-ended_before l ended = record { task = refl; ended = ended; levels = λ bytes out levels. levels }

@@ -81,8 +81,8 @@ impl Model for Leveller {
 }
 
 impl Leveller {
-    /// Takes the memory for a stretch, and for some levelled bytes. The marks say which channels are masked, in the order
-    /// of the file.
+    /// Takes the memory for a stretch, and for some levelled bytes. The marks say which channels are masked, in the
+    /// order of the file.
     pub fn open(
         alloc: Global,
         format: Format,
