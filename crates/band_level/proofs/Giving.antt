@@ -4,7 +4,7 @@ use Rattle.std.specs.List.{range_with_len, flat_map}
 use Rattle.std.proofs.Math.Nat.{mul-le-mul, mul-le-mul_right, div-mul-le_self}
 use Rattle.std.proofs.lemmas.List.{drop_all}
 use Rattle.std.proofs.lemmas.Nat.{le-div, div-mul-add}
-use Rattle.psr_base.proofs.Ranges.{flat_map_range_more}
+use Rattle.band_level.proofs.Ranges.{flat_map_range_more}
 use Rattle.band_level.specs.Ranges.{FormatInRange}
 use Rattle.band_level.specs.Values.{Band, cells, spectrum_bytes, cell_value}
 use Rattle.band_level.specs.Scales.{unit}

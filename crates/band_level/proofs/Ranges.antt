@@ -1,10 +1,21 @@
--- Sums over a range of numbers.
-use Rattle.std.proofs.Common.{◌≡◌, ℕ, ◌+◌, Bool, true, false, cond, [], ◌∷◌, length, map, sym, ◌∙◌, ap, refl, arith, length-append}
-use Rattle.std.specs.List.{range_with_len, sum_by, filter}
+-- Sums and lists over a range of numbers.
+use Rattle.std.proofs.Common.{◌≡◌, ℕ, ◌+◌, ◌++◌, List, Bool, true, false, cond, [], ◌∷◌, length, map, sym, ◌∙◌, ap, refl, arith, length-append, append-nil}
+use Rattle.std.specs.List.{range_with_len, sum_by, filter, flat_map}
+use Rattle.std.proofs.lemmas.List.{map-id}
+use Rattle.std.proofs.lemmas.List.Concat.{flat_map-append}
 use Rattle.std.proofs.lemmas.List.Sums.{sum-map, sum_by-append, sum_by-cons}
-use Rattle.std.proofs.lemmas.List.FromFn.{sum_by-map-range_with_len_more, filter_of_map_range_with_len_more}
+use Rattle.std.proofs.lemmas.List.FromFn.{map-range_with_len_more, sum_by-map-range_with_len_more, filter_of_map_range_with_len_more}
 
 -- one number more
+pub flat_map_range_more : {A : Type 0} (f : ℕ → List A) (a n j : ℕ) → a + n ≡ j
+    → flat_map f (range_with_len a (n + 1)) ≡ flat_map f (range_with_len a n) ++ f j
+flat_map_range_more f a n j e =
+    let more : range_with_len a (n + 1) ≡ range_with_len a n ++ j ∷ [] =
+    sym (map-id (range_with_len a (n + 1))) ∙ map-range_with_len_more (λ (i : ℕ). i) a n j e
+    ∙ ap (λ xs. xs ++ j ∷ []) (map-id (range_with_len a n)) in
+    ap (λ xs. flat_map f xs) more ∙ flat_map-append f (range_with_len a n) (j ∷ [])
+    ∙ ap (λ ys. flat_map f (range_with_len a n) ++ ys) (append-nil (f j))
+
 pub sum_range_more_from : (f : ℕ → ℕ) (a n j : ℕ) → a + n ≡ j
     → sum_by f (range_with_len a (n + 1)) ≡ sum_by f (range_with_len a n) + f j
 sum_range_more_from f a n j e =

@@ -1,5 +1,5 @@
 // Bytes that are fed, as levelled bytes.
-ghost use Rattle.std.specs.Prelude.{◌≡◌, ◌+◌, ◌*◌, ◌/◌, ◌<◌, ◌≤◌, ◌⊎◌, ◌++◌, Bool, List, [], true, false, length, replicate, take, IfOk};
+ghost use Rattle.std.specs.Prelude.{◌≡◌, ◌+◌, ◌*◌, ◌/◌, ◌<◌, ◌≤◌, ◌⊎◌, ◌++◌, [], true, false, length, replicate, take, IfOk};
 ghost use Rattle.band_level.specs.Values.{cells, spectrum_bytes};
 ghost use Rattle.band_level.specs.Ranges.{FormatInRange, PlanInRange};
 ghost use Rattle.band_level.specs.Levelling.{Levelling, Levels, Takes, Gives, EndsAs, IsDone, pending};

@@ -1,5 +1,5 @@
 // The scales of all cells, by the values of a stretch.
-ghost use Rattle.std.specs.Prelude.{◌≡◌, ℕ, ◌+◌, ◌*◌, ◌/◌, ◌<◌, ◌≤◌, ◌≢◌, ◌⊎◌, length, slice_index};
+ghost use Rattle.std.specs.Prelude.{◌≡◌, ℕ, ◌*◌, ◌/◌, ◌<◌, ◌≤◌, ◌≢◌, ◌⊎◌, length, slice_index};
 ghost use Rattle.band_level.specs.Values.{cells, spectrum_bytes, cell_value};
 ghost use Rattle.band_level.specs.Moments.{fair_moments};
 ghost use Rattle.band_level.specs.Columns.{AreNear, AreSmall, column, moments_held};

@@ -1,5 +1,5 @@
 // The scale of a cell, from its moments.
-ghost use Rattle.std.specs.Prelude.{◌≡◌, ◌+◌, ◌*◌, ◌^◌, ◌<◌, ◌≤◌, ℕ, Bool};
+ghost use Rattle.std.specs.Prelude.{◌≡◌, ◌+◌, ◌*◌, ◌^◌, ◌<◌, ◌≤◌, ℕ};
 ghost use Rattle.band_level.specs.Moments.{Moments, spread, is_near};
 ghost use Rattle.band_level.specs.Scales.{root, unit, most_gain, gain_for, scale_for, scale_of};
 ghost use Rattle.band_level.specs.Ranges.{PlanInRange};

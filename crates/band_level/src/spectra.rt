@@ -1,6 +1,6 @@
 // Spectra that are held, levelled and written.
-ghost use Rattle.std.specs.Prelude.{◌≡◌, ℕ, ◌+◌, ◌*◌, ◌/◌, ◌<◌, ◌≤◌, ◌++◌, List, [], length, take, slice_index};
-ghost use Rattle.band_level.specs.Values.{cells, spectrum_bytes, cell_value};
+ghost use Rattle.std.specs.Prelude.{◌≡◌, ℕ, ◌+◌, ◌*◌, ◌/◌, ◌<◌, ◌≤◌, [], length, take, slice_index};
+ghost use Rattle.band_level.specs.Values.{cells, spectrum_bytes};
 ghost use Rattle.band_level.specs.Scales.{unit};
 ghost use Rattle.band_level.specs.Rows.{ScalesFit};
 ghost use Rattle.band_level.specs.Ranges.{FormatInRange, PlanInRange};

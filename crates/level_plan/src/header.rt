@@ -3,11 +3,10 @@ ghost use Rattle.std.specs.Prelude.{◌≡◌, ◌≤◌, ◌*◌, ◌^◌, ℕ,
 ghost use Rattle.std.specs.Option.{ForSome};
 ghost use Rattle.dada_model.specs.Number.{number_value};
 ghost use Rattle.dada_model.specs.Change.{IsWord};
-ghost use Rattle.dada_model.specs.Fields.{fields_of, value_of};
 ghost use Rattle.dada_header.specs.Changes.{IsOverfull};
 ghost use Rattle.psr_base.specs.Fixed.{fixed_text};
 ghost use Rattle.level_plan.specs.Plans.{OptionsInRange};
-ghost use Rattle.level_plan.specs.Headers.{if_count, told_count, new_count as new_count_of, new_number as new_number_of, with_number, with_numbers, level_header as level_header_of, FindsNoRoom, ExplainsHeader, field_name, field_decimals};
+ghost use Rattle.level_plan.specs.Headers.{if_count, told_count, new_count as new_count_of, new_number as new_number_of, with_number, level_header as level_header_of, FindsNoRoom, ExplainsHeader, field_name, field_decimals};
 
 use crate::field::{FIELDS, Field};
 use crate::plans::written_bits;

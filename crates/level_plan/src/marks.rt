@@ -1,8 +1,6 @@
 // The masked channels in the order of the file.
-ghost use Rattle.std.specs.Prelude.{◌≡◌, ◌<◌, Bool, List, length, map, take, IfOk};
-ghost use Rattle.std.specs.List.{range_with_len};
-ghost use Rattle.dada_model.specs.Bounds.{ObservationInRange};
-ghost use Rattle.channel_mask.specs.Masks.{IsMaskOf, place_in_file, is_masked};
+ghost use Rattle.std.specs.Prelude.{◌≡◌, ◌<◌, length, IfOk};
+ghost use Rattle.channel_mask.specs.Masks.{IsMaskOf, place_in_file};
 ghost use Rattle.level_plan.specs.Plans.{marks_of};
 
 use channel_mask::Mask;

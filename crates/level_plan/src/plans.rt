@@ -1,7 +1,5 @@
 // How the data of an observation are levelled.
-ghost use Rattle.std.specs.Prelude.{◌≡◌, ◌≤◌, ◌*◌, ◌^◌, true, nat_le, ◌↔◌, IsTrue};
-ghost use Rattle.std.specs.Option.{ForSome};
-ghost use Rattle.dada_model.specs.Bounds.{ObservationInRange};
+ghost use Rattle.std.specs.Prelude.{◌≡◌, ◌*◌, ◌↔◌, IsTrue};
 ghost use Rattle.band_level.specs.Ranges.{FormatInRange, PlanInRange};
 ghost use Rattle.level_plan.specs.Plans.{OptionsInRange, written_bits as written_bits_of, usual_mean as usual_mean_of, usual_deviation as usual_deviation_of, usual_most as usual_most_of, format_of as format_for, plan_of as plan_for, FitsTime};
 

@@ -2,7 +2,7 @@
 ghost use Rattle.std.specs.Prelude.{◌≡◌, [], ◌∷◌, map, string_bytes, IfOk, IfErr, None};
 ghost use Rattle.clap.specs.Walk.{texts};
 ghost use Rattle.clap.specs.Words.{found_of, rows_of};
-ghost use Rattle.level_words.specs.Values.{first_out_of_range as first_out_of_range_of, files_of, mask_text as mask_text_of};
+ghost use Rattle.level_words.specs.Values.{files_of, mask_text as mask_text_of};
 ghost use Rattle.level_words.specs.Settings.{LevelInRange, level_seen, options_of as options_of_found, run_of, settings_of, ExplainsLevel, SayLevel};
 ghost use Rattle.search_words.specs.Settings.{run_seen};
 
