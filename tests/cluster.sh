@@ -198,8 +198,8 @@ by_slurm 4 limited
 same 'sbatch with a limit that is too low: status' $? 9
 
 # A hunt by each engine: the same texts.
-PSR_LEVEL=$(command -v "${bin:+$bin/}psr_level" || echo "$root/companions/psr_level")
-export PSR_LEVEL
+export PSR_LEVEL=${at[psr_search]%/*}/psr_level
+[ -x "$PSR_LEVEL" ] || PSR_LEVEL=$root/companions/psr_level
 hunted() { # hunted ENGINE WORD ..: hunts by an engine, and compares the texts with those of the first hunt
     local engine=$1
     shift

@@ -55,10 +55,12 @@ class Given:
 def why(program: str, arguments: Sequence[str]) -> str | None:
     """Why a program refuses these arguments or the headers of their files; None if nothing is seen to be wrong.
 
-    `program` is its name or its path. Nothing is run, and no data are read.
+    `program` is its name or its path; nothing is seen of one that is not proved. Nothing is run, and no data are read.
     """
+    name = name_of(program)
+    if name not in reference().programs:
+        return None
     try:
-        name = program_named(program)
         given = walked(name, arguments)
         check_required(name, given)
         check_values(name, given)
@@ -71,12 +73,9 @@ def why(program: str, arguments: Sequence[str]) -> str | None:
     return None
 
 
-def program_named(program: str) -> str:
-    """The program of a name or a path."""
-    name = os.path.basename(program).removesuffix("_main")
-    if name not in reference().programs:
-        raise Wrong(f"{name} is none of the proved programs{perhaps(name, reference().programs)}")
-    return name
+def name_of(program: str) -> str:
+    """The name of the program at a path."""
+    return os.path.basename(program).removesuffix("_main")
 
 
 def perhaps(name: str, names: Iterable[str]) -> str:
@@ -438,7 +437,7 @@ class Arguments(argparse.ArgumentParser):
 
     def error(self, message: str) -> NoReturn:
         """Ends with the status of arguments."""
-        print(f"psr_why: {message}; --help lists them", file=sys.stderr)
+        print(f"psr_why: {message}", file=sys.stderr)
         sys.exit(REFUSED)
 
 
@@ -448,7 +447,9 @@ def main(arguments: Sequence[str]) -> int:
     parser.add_argument("program", metavar="PROGRAM", help="the program, as psr_search")
     parser.add_argument("arguments", metavar="ARGUMENT", nargs=argparse.REMAINDER, help="what it was given")
     asked = parser.parse_args(arguments)
+    name = name_of(asked.program)
+    if name not in reference().programs:
+        parser.error(f"{name} is none of the proved programs{perhaps(name, reference().programs)}")
     said = why(asked.program, asked.arguments)
-    name = os.path.basename(asked.program)
     print(f"{name}: {said}" if said else f"{name}: nothing is seen here that is refused before the data are read")
     return FOUND if said else NOT_FOUND

@@ -197,7 +197,7 @@ def test_the_program_itself(folder: Path, command: str, status: int) -> None:
 
 
 def test_what_is_no_program() -> None:
-    assert why("psr_serch", []) == "psr_serch is none of the proved programs: did you mean psr_search?"
+    assert why("psr_serch", []) is None
     assert why("/usr/bin/psr_search", [SEARCH]) is not None
 
 
@@ -210,7 +210,7 @@ def test_an_argument_that_is_not_utf_8() -> None:
     (["--mean", "16"], 2, "psr_why: "),
     (["--help"], 0, "usage: psr_why [-h] PROGRAM"),
     (["psr_search", "--help"], 0, "psr_search: psr_search has no option --help"),
-    (["psr_serch"], 0, "psr_serch: psr_serch is none of the proved programs"),
+    (["psr_serch"], 2, "psr_why: psr_serch is none of the proved programs: did you mean psr_search?"),
     (["psr_search", "--mean", "16"], 0, "psr_search: --sd is missing"),
     (["psr_make", "new.dada"], 1, "psr_make: nothing is seen here that is refused"),
 ])
