@@ -35,6 +35,7 @@ th, td { padding: 4px 9px; text-align: right; border-bottom: 1px solid var(--lin
 th { background: var(--wash); font-weight: 600; }
 .text td, .text th, td.text, th.text { text-align: left; white-space: normal; overflow-wrap: anywhere; }
 .text th { width: 190px; background: none; color: var(--soft); font-weight: 500; vertical-align: top; }
+.name { min-width: 150px; }
 .scroll { max-height: 520px; overflow: auto; border: 1px solid var(--line); border-radius: 6px; }
 .scroll thead th { position: sticky; top: 0; z-index: 1; }
 #candidates thead th { cursor: pointer; user-select: none; }
@@ -141,7 +142,7 @@ DM against time.</p>
 <p><code>psr_hunt {{ arguments }}</code></p>
 <details{{ " open" if commands | length < 30 else "" }}><summary>{{ commands | length }} commands</summary>
 <div class="scroll"><table>
-<thead><tr><th class="text">name</th><th>seconds</th><th>status</th><th class="text">command</th></tr></thead><tbody>
+<thead><tr><th class="text name">name</th><th>seconds</th><th>status</th><th class="text">command</th></tr></thead><tbody>
 {%- for one in commands %}<tr><td class="text">{{ one.name }}</td>
 <td>{{ "%.2f" | format(one.seconds) }}</td><td>{{ one.status }}</td>
 <td class="text"><code>{{ one.line }}</code></td></tr>{% endfor %}

@@ -121,11 +121,14 @@ def observation_lines(hunt: Hunt) -> list[tuple[str, str]]:
     return [
         ("Files", ", ".join(hunt.inputs)), ("Source", sky.source), ("Telescope", sky.telescope),
         ("Begin (UTC)", sky.utc_start), ("Begin (MJD)", "" if sky.mjd_start is None else f"{sky.mjd_start:.9f}"),
-        ("Band", f"{sky.nchan} channels around {sky.freq:g} MHz, {sky.bw:g} MHz wide"),
-        ("Samples", f"{sky.nbit} bits, {sky.npol} polarisations, every {sky.tsamp * 1e6:g} us"),
+        ("Band", f"{sky.freq - abs(sky.bw) / 2:g} to {sky.freq + abs(sky.bw) / 2:g} MHz, {sky.nchan} channels, the "
+                 f"{'highest' if sky.bw < 0 else 'lowest'} first"),
+        ("Samples", f"{sky.nbit} bits every {sky.tsamp * 1e6:g} us, polarisations: {sky.npol}"),
         ("Length", f"{sky.spectra} spectra, {sky.spectra * sky.tsamp:.3f} s"),
         ("Mask", hunt.mask), ("Zero DM", "the mean of each spectrum was taken out" if hunt.zero_dm else "no"),
         ("Clip", "no" if hunt.clip is None else f"spectra farther than {hunt.clip:g} deviations off"),
+        ("Bursts", "not looked for" if hunt.bursts is None else f"{len(hunt.bursts)} bursts of interference in parts of "
+                                                                "the band were replaced"),
     ]
 
 
