@@ -24,7 +24,7 @@ for page in "$folder/man"/*.1; do
         [ "$shown" -le 350 ] || same "lines of $name, of which there may be 350" "$shown" ''
     fi
     same "paths in $name" "$(grep -noE '[^/a-z](bench|companions|completions|crates|cluster|packaging|tests)/[a-z_.]+' \
-        <(grep -v -e '/usr/local/share/doc' -e '^\.\\"' "$page"))" ''
+        <(grep -v -e '/usr/local/share/doc' -e '^\.\\"' "$page" | sed 's/[^ ]* of the repository//'))" ''
 done
 
 # shellcheck source=completions/malletbean.bash
