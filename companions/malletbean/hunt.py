@@ -342,7 +342,7 @@ def run_hunt(asked: argparse.Namespace, folder: str, hunt: Hunt, begun: float) -
         write_manifest(folder, running.hunt)
     if failures:
         raise failed(running, failures)
-    finish(asked, running, time.monotonic() - begun)
+    finish(asked, running, begun)
 
 
 def check_engine(asked: argparse.Namespace) -> None:
@@ -416,13 +416,13 @@ def failure_line(failure: Failure) -> str:
     return f"{failure.task.name} failed: {failure.line}; its command: {failure.task.line}"
 
 
-def finish(asked: argparse.Namespace, running: Running, seconds: float) -> None:
+def finish(asked: argparse.Namespace, running: Running, begun: float) -> None:
     """Writes candidates and report, says what was found, and removes what is of no more use."""
     folder = running.folder
     table = write_candidates(folder)
     write_candidate_series(folder, table, MOST_SERIES)
     write_report(folder, most=MOST_PICTURES)
-    lines = summary_lines(folder, running.hunt, count_lines(running), seconds)
+    lines = summary_lines(folder, running.hunt, count_lines(running), time.monotonic() - begun)
     if not asked.keep:
         clear(running)
     with whole_file(os.path.join(folder, "summary")) as path, open(path, "w", encoding="utf-8") as file:

@@ -57,7 +57,11 @@ def converter_of_one(path: str) -> str | None:
     for place, mark, name in CONVERTERS:
         if front[place:].startswith(mark):
             return name
-    fields = fields_of(header_text(path)[0])
+    try:
+        fields = fields_of(header_text(path)[0])
+    except Refusal as refusal:
+        line = f"no SIGPROC filterbank or PSRFITS, and as a DADA file: {refusal.line}"
+        raise Refusal(refusal.status, line) from refusal
     is_searched = all(fields.get(keyword, taken[0]) in taken for keyword, taken in SEARCHED.items())
     channels = scaled(fields.get("NCHAN", "0"), 0) or 0
     return None if is_searched and channels <= MOST_CHANNELS else "psr_dada"

@@ -106,8 +106,8 @@ def cost_lines(hunt: Hunt, head: Header, cores: int, converted: bool) -> list[st
     """What the hunt takes, by measured rates."""
     seconds = predicted_seconds(hunt, head)
     disk, memory = disk_bytes(head, hunt.levels, converted), memory_bytes(head, hunt.levels, hunt.searches, cores)
-    return [f"time         about {duration(seconds)} of one core, {duration(seconds / cores)} on {cores} (quiet, with "
-            "AVX2; twice as long on an older machine)",
+    return [f"time         about {duration(seconds)} of one core, {duration(seconds / cores)} on {cores} "
+            "(levels and searches alone, on a quiet machine with AVX2; twice as long on an older one)",
             f"disk         {size(disk)} while it runs", f"memory       {size(memory)}"]
 
 
@@ -138,7 +138,7 @@ def room_missing(hunt: Hunt, head: Header, folder: str, cores: int, converted: b
 
 
 def summary_lines(folder: str, hunt: Hunt, lines: int, seconds: float) -> list[str]:
-    """The end of a hunt in ten lines."""
+    """The summary at the end of a hunt."""
     sky, found = hunt.observation, candidates_in(folder)
     flagged = sum(bool(one.get("flag")) for one in found)
     return [

@@ -45,7 +45,12 @@ def main() -> int:
 
 def without(name: str, package: str) -> int:
     """Runs the command by Debian's Python where this one lacks a package, or says so."""
-    if os.access(DEBIAN, os.X_OK) and not os.path.samefile(DEBIAN, sys.executable):
-        os.execv(DEBIAN, [DEBIAN, *sys.argv])
+    run_by_debian()
     print(f"{name}: {sys.executable} has no {package}: install it (Debian: python3-{package})", file=sys.stderr)
     return 1
+
+
+def run_by_debian() -> None:
+    """Runs the command by Debian's Python, if there is one and it is another than this one."""
+    if os.access(DEBIAN, os.X_OK) and not os.path.samefile(DEBIAN, sys.executable):
+        os.execv(DEBIAN, [DEBIAN, *sys.argv])

@@ -224,6 +224,7 @@ def overview(lines: Array, table: Array) -> Figure:
         ratios.yaxis.set_minor_formatter("{x:g}")
         ratios.tick_params(axis="y", which="minor", labelsize=6)
     numbers.hist([ordered["dm"][~is_flagged], ordered["dm"][is_flagged]], bins=60, stacked=True, color=[FOUND, FLAGGED])
+    numbers.yaxis.get_major_locator().set_params(integer=True)
     numbers.set(xlabel="DM / (pc/cm³)", ylabel="candidates", title="number of candidates")
     times.scatter(ordered["time_top"], ordered["dm"], s=areas(ordered["snr"]) if len(table) else [], color=colors,
                   alpha=0.7, linewidths=0.4, edgecolors="white")

@@ -8,6 +8,7 @@ import signal
 import sys
 from collections.abc import Callable, Iterator, Sequence
 from contextlib import contextmanager
+from difflib import get_close_matches
 from types import FrameType
 from typing import NoReturn
 
@@ -29,7 +30,18 @@ class Words(argparse.ArgumentParser):
 
     def error(self, message: str) -> NoReturn:
         """Ends with the status of words."""
-        raise Refusal(WORDS, f"{message}; --help lists the words")
+        raise Refusal(WORDS, f"{message}; {self.meant()}--help lists the options")
+
+    def meant(self) -> str:
+        """The option nearest to the first one of the command that is unknown, as a question."""
+        names = [name for name in self._option_string_actions if name.startswith("--")]
+        for word in sys.argv[1:]:
+            given = word.partition("=")[0]
+            if len(given) > 2 and given[0] == "-" and not any(name.startswith(given) for name in names):
+                near = get_close_matches(f"--{given.lstrip('-')}", names, n=1)
+                if near:
+                    return f"there is no {given}: did you mean {near[0]}? "
+        return ""
 
 
 def run(name: str, program: Callable[[Sequence[str]], None]) -> int:

@@ -11,6 +11,7 @@ from difflib import get_close_matches
 from fractions import Fraction
 from typing import TYPE_CHECKING, NoReturn
 
+from .launch import COMMANDS as COMPANIONS
 from .reference import Option, reference
 from .refusal import Refusal
 
@@ -448,6 +449,8 @@ def main(arguments: Sequence[str]) -> int:
     parser.add_argument("arguments", metavar="ARGUMENT", nargs=argparse.REMAINDER, help="what it was given")
     asked = parser.parse_args(arguments)
     name = name_of(asked.program)
+    if name in COMPANIONS:
+        parser.error(f"{name} is a companion, and says itself what is wrong; psr_why is for the proved programs")
     if name not in reference().programs:
         parser.error(f"{name} is none of the proved programs{perhaps(name, reference().programs)}")
     said = why(asked.program, asked.arguments)

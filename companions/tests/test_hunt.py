@@ -261,7 +261,8 @@ def test_too_little_room(observation: str, tmp_path: Path, monkeypatch: pytest.M
 
 @pytest.mark.parametrize("words, status, line", [
     ([], 2, "the following arguments are required"),
-    (["FILE", "-o", "FOLDER"], 2, "--dm"),
+    (["FILE", "-o", "FOLDER"], 2, "--dm; --help lists the options"),
+    (["FILE", "-dm", "0", "9", "-o", "FOLDER"], 2, "there is no -dm: did you mean --dm?"),
     (["FILE", "--dm", "20", "10", "-o", "FOLDER"], 2, "argument --dm: 20 is not below 10"),
     (["FILE", "--dm", "0", "1e3", "-o", "FOLDER"], 2, "1e3 is no number"),
     (["FILE", "--dm", "0", "99999999", "-o", "FOLDER"], 2, "the greatest that is reached"),
@@ -270,7 +271,7 @@ def test_too_little_room(observation: str, tmp_path: Path, monkeypatch: pytest.M
     (["FILE", "--dm", "0", "9", "-o", "FOLDER", "--slurm", "--parallel", ""], 2, "not allowed with"),
     (["/nowhere/a.dada", "--dm", "0", "9", "-o", "FOLDER"], 6, "can't read /nowhere/a.dada"),
     (["/dev/null", "--dm", "0", "9", "-o", "FOLDER"], 6, "can't read /dev/null: it has to be a file"),
-    ([__file__, "--dm", "0", "9", "-o", "FOLDER"], 3, "refused: "),
+    ([__file__, "--dm", "0", "9", "-o", "FOLDER"], 3, "no SIGPROC filterbank or PSRFITS, and as a DADA file: "),
     (["FILE", "--dm", "0", "9", "-o", "FILE"], 10, "can't make "),
 ])
 def test_what_is_refused(observation: str, tmp_path: Path, monkeypatch: pytest.MonkeyPatch,

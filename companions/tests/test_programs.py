@@ -37,6 +37,8 @@ def test_the_commands(program: str) -> None:
 
 @pytest.mark.parametrize("program, words, status, line", [
     ("psr_look", [], 2, "the following arguments are required: FILE"),
+    ("psr_look", ["FILE", "--megabyts", "8"], 2, "there is no --megabyts: did you mean --megabytes? --help lists"),
+    ("psr_look", ["FILE", "-mask", "3"], 2, "; there is no -mask: did you mean --mask? --help lists the options"),
     ("psr_look", ["FILE", "1e3"], 2, "1e3 is no dispersion measure"),
     ("psr_look", ["/nowhere/a.dada"], 6, "can't read /nowhere/a.dada"),
     ("psr_look", [MADE], 3, f"header of {MADE} refused: Short"),

@@ -211,6 +211,7 @@ def test_an_argument_that_is_not_utf_8() -> None:
     (["--help"], 0, "usage: psr_why [-h] PROGRAM"),
     (["psr_search", "--help"], 0, "psr_search: psr_search has no option --help"),
     (["psr_serch"], 2, "psr_why: psr_serch is none of the proved programs: did you mean psr_search?"),
+    (["psr_hunt", "own.fil"], 2, "psr_why: psr_hunt is a companion, and says itself what is wrong"),
     (["psr_search", "--mean", "16"], 0, "psr_search: --sd is missing"),
     (["psr_make", "new.dada"], 1, "psr_make: nothing is seen here that is refused"),
 ])
