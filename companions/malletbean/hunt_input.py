@@ -59,6 +59,8 @@ def converter_of_one(path: str) -> str | None:
             return name
     try:
         fields = fields_of(header_text(path)[0])
+        if not fields.keys() & {"HDR_SIZE", "HDR_VERSION", "NCHAN", "NBIT"}:
+            raise Refusal(HEADER, f"header of {path} refused: Missing NCHAN")
     except Refusal as refusal:
         line = f"no SIGPROC filterbank or PSRFITS, and as a DADA file: {refusal.line}"
         raise Refusal(refusal.status, line) from refusal
