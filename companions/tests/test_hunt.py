@@ -272,7 +272,7 @@ def test_too_little_room(observation: str, tmp_path: Path, monkeypatch: pytest.M
     (["/nowhere/a.dada", "--dm", "0", "9", "-o", "FOLDER"], 6, "can't read /nowhere/a.dada"),
     (["/dev/null", "--dm", "0", "9", "-o", "FOLDER"], 6, "can't read /dev/null: it has to be a file"),
     ([__file__, "--dm", "0", "9", "-o", "FOLDER"], 3, "no SIGPROC filterbank or PSRFITS, and as a DADA file: "),
-    (["FILE", "--dm", "0", "9", "-o", "FILE"], 10, "can't make "),
+    pytest.param(["FILE", "--dm", "0", "9", "-o", "FILE"], 10, "can't make ", marks=needs_search),
 ])
 def test_what_is_refused(observation: str, tmp_path: Path, monkeypatch: pytest.MonkeyPatch,
                          capsys: pytest.CaptureFixture[str], words: list[str], status: int, line: str) -> None:
