@@ -1,6 +1,6 @@
 """`psr_level`: the same observation, with one mean and one deviation in all channels and at all times.
 
-What is written is defined by whole numbers alone, and psr_level of Malletbean is proved to write the same.
+What is written is defined by whole numbers alone, as the crate band_level defines it, which has no --clip and --zero-dm.
 """
 from __future__ import annotations
 
