@@ -6,6 +6,7 @@ use Rattle.std.proofs.lemmas.Nat.{div_below, le-div}
 use Rattle.band_level.specs.Values.{Band, cells}
 use Rattle.band_level.specs.Moments.{fair_moments}
 use Rattle.band_level.specs.Scales.{Scale, scale_of, unit}
+use Rattle.band_level.specs.Finished.{finished}
 use Rattle.band_level.specs.Levelled.{Task, is_masked, stretch_values, scale_by, stretch_for, scale_at, fine, fine_before, level, value_bytes, spectrum_levels, first_levels}
 use Rattle.band_level.proofs.Shifts.{sums_agree}
 
@@ -84,8 +85,9 @@ module _ (k : Task) (b c : Band) (stretches : ℕ) (agree : Agree k b c stretche
   spectrum_agrees : (t : ℕ) → t < stretches * k.plan.spectra → spectrum_levels k b t ≡ spectrum_levels k c t
   unfolding spectrum_levels
   spectrum_agrees t lt =
-      pieces_agree (λ i. value_bytes k.plan.bits (level k b i t)) (λ i. value_bytes k.plan.bits (level k c i t))
-      0 (cells k.format) (λ i low high. ap (value_bytes k.plan.bits) (level_agrees t i lt (omega arith)))
+      ap (λ xs. flat_map (value_bytes k.plan.bits) (finished k.plan (is_masked k) xs))
+      (maps_agree (λ i. level k b i t) (λ i. level k c i t) 0 (cells k.format)
+      (λ i low high. level_agrees t i lt (omega arith)))
 
   pub levels_agree : (n : ℕ) → n ≤ stretches * k.plan.spectra → first_levels k b n ≡ first_levels k c n
   unfolding first_levels

@@ -116,7 +116,7 @@ held_spectra l bytes start stretch count range stands is_ready few = record {
 -- the next spectra are levelled
 pub record MakesSpectra (l : Levelling) (count : ℕ) (fractions piece : List ℕ) : Type 0 where
   pub few : l.first + count ≤ l.last
-  pub levels : LevelsSpectra l.task.format l.task.plan l.held l.gains l.bases l.lifts l.first count l.fractions fractions
+  pub levels : LevelsSpectra l.task l.held l.gains l.bases l.lifts l.first count l.fractions fractions
       [] piece
 
 module _ (l : Levelling) (count : ℕ) (fractions piece : List ℕ) (range : FormatInRange l.task.format)
@@ -124,7 +124,7 @@ module _ (l : Levelling) (count : ℕ) (fractions piece : List ℕ) (range : For
     (bytes out : List ℕ) (start stretch : ℕ) (stands : StandsFor l bytes start stretch)
     (is_out : out ≡ first_levels l.task (band_of l bytes) (start + l.first)) where
   made : AreLevelled l.task (band_of l bytes) (start + l.first) count fractions [] piece
-  made = makes.levels l.task.masked (band_of l bytes) (start + l.first)
+  made = makes.levels (band_of l bytes) (start + l.first)
       (held_spectra l bytes start stretch count range stands (ready l bytes start stretch range some next stands) makes.few)
       stands.place.carried
 

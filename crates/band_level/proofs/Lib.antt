@@ -1,9 +1,12 @@
 pub mod Fills
 pub mod Ranges
+pub mod Kept
+pub mod Shares
 pub mod Values
 pub mod Columns
 pub mod Roots
 pub mod Scales
+pub mod Narrowed
 pub mod Measured
 pub mod SpectraLevelled
 pub mod Shifts
@@ -14,3 +17,4 @@ pub mod Ending
 pub mod Written
 pub mod Stepping
 pub mod Means
+pub mod SpectraMeans

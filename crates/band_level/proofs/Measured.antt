@@ -1,12 +1,15 @@
 -- The scale of a cell, from sums of all its values and then of those near their mean.
-use Rattle.std.proofs.Common.{◌≡◌, ℕ, zero, suc, ◌+◌, ◌*◌, ◌<◌, ◌≤◌, inl, inr, Bool, true, false, ◌&&◌, cond, eqb, leb, List, ◌∷◌, length, map, slice_index, replicate, refl, sym, ◌∙◌, ap, arith}
+use Rattle.std.proofs.Common.{◌≡◌, ℕ, zero, suc, ◌+◌, ◌-◌, ◌*◌, ◌<◌, ◌≤◌, inl, inr, Bool, true, false, not, cond, eqb, List, [], ◌∷◌, length, map, slice_index, refl, sym, ◌∙◌, ap, arith}
 use Rattle.std.specs.List.{range_with_len, sum_by, filter}
-use Rattle.std.proofs.lemmas.Bool.{cases_lt, le-leb}
+use Rattle.std.proofs.Math.Nat.{mul-le-mul}
+use Rattle.std.proofs.lemmas.Bool.{cases_lt}
 use Rattle.std.proofs.lemmas.Bool.Decides.{nat_tests}
-use Rattle.std.proofs.lemmas.List.{get_or-replicate}
+use Rattle.std.proofs.lemmas.List.{get_or_past}
+use Rattle.std.proofs.lemmas.List.Filters.{length-filter_both}
+use Rattle.std.proofs.lemmas.List.Sums.{sum_by-cons, length-filter, count_by-le-length}
 use Rattle.std.proofs.lemmas.List.FromFn.{length-map-range_with_len}
 use Rattle.band_level.specs.declared.plan.Plan.{Plan}
-use Rattle.band_level.specs.Columns.{AreSums, AreNear, column, counted, is_between, moments_held}
+use Rattle.band_level.specs.Columns.{AreBelow, AreFarSums, AreNear, AreSmall, AreTotals, LeavesOut, column, near_column, is_between, moments_held}
 use Rattle.band_level.specs.Moments.{Moments, moments, near_values, fair_moments, is_near}
 use Rattle.band_level.specs.Rows.{SetsScales, scale_held}
 use Rattle.band_level.specs.Scales.{Scale, scale_of}
@@ -21,10 +24,6 @@ filters_agree p q f a (suc n) same =
     ∙ ap (λ b. cond b (f a ∷ filter q (map f (range_with_len (a + 1) n))) (filter q (map f (range_with_len (a + 1) n))))
     (same a (omega arith) (omega arith))
 
-all_kept : (f : ℕ → ℕ) (a n : ℕ) → filter (λ x. true) (map f (range_with_len a n)) ≡ map f (range_with_len a n)
-all_kept f a zero = refl
-all_kept f a (suc n) = ap (λ ys. f a ∷ ys) (all_kept f (a + 1) n)
-
 abbrev moments_with : ℕ → ℕ → ℕ → Moments
 moments_with count total squares = record { count = count; total = total; squares = squares }
 
@@ -32,44 +31,139 @@ moments_same : (a b c d e f : ℕ) → a ≡ d → b ≡ e → c ≡ f → momen
 moments_same a b c d e f x y z =
     ap (λ v. moments_with v b c) x ∙ ap (λ v. moments_with d v c) y ∙ ap (λ v. moments_with d e v) z
 
--- sums are the moments of what they count
-sums_are : (value : ℕ → ℕ → ℕ) (cells n : ℕ) (lows highs counts totals squares : List ℕ) (xs : List ℕ) (i : ℕ)
-    → AreSums value cells n lows highs counts totals squares → i < cells → counted value lows highs n i ≡ xs
-    → moments_held counts totals squares i ≡ moments xs
-sums_are value cells n lows highs counts totals squares xs i sums here is =
+-- ---- all values
+
+pub all_moments : (value : ℕ → ℕ → ℕ) (cells n : ℕ) (counts totals squares : List ℕ)
+    → ((i : ℕ) → i < cells → slice_index counts i ≡ n) → AreTotals value cells n totals squares
+    → (i : ℕ) → i < cells → moments_held counts totals squares i ≡ moments (column value n i)
+all_moments value cells n counts totals squares counted sums i here =
+    let xs = column value n i in
     moments_same _ _ _ (length xs) (sum_by (λ x. x) xs) (sum_by (λ x. x * x) xs)
-    (sums.count i here ∙ ap length is)
-    (sums.total i here ∙ ap (sum_by (λ x. x)) is)
-    (sums.square i here ∙ ap (sum_by (λ x. x * x)) is)
+    (counted i here ∙ sym (length-map-range_with_len (λ t. value t i) 0 n))
+    (sums.total i here) (sums.square i here)
 
--- of bounds that leave out nothing, all values are counted
-all_counted : (value : ℕ → ℕ → ℕ) (n i low high : ℕ) → low ≡ 0 → high ≡ 4294967295
-    → ((t : ℕ) → t < n → value t i ≤ 4294967295)
-    → filter (is_between low high) (column value n i) ≡ column value n i
-all_counted value n i low high is_low is_high small =
-    filters_agree (is_between low high) (λ x. true) (λ t. value t i) 0 n
-    (λ t from to.
-    let a : leb low (value t i) ≡ true = le-leb _ _ (omega arith) in
-    let b : leb (value t i) high ≡ true = le-leb _ _ (omega (arith, small t (omega arith))) in
-    ap (λ v. v && leb (value t i) high) a ∙ b)
-    ∙ all_kept (λ t. value t i) 0 n
+pub all_small : (cells n : ℕ) (counts totals squares : List ℕ) → n ≤ 1048576
+    → length counts ≡ cells → length totals ≡ cells → length squares ≡ cells
+    → ((i : ℕ) → i < cells → slice_index counts i ≡ n) → AreBelow n totals squares
+    → AreSmall 1048576 counts totals squares
+all_small cells n counts totals squares few lc lt ls counted below = record {
+  count = λ i. elim (cases_lt i cells) [
+    | inl h ↦ omega (arith, counted i h)
+    | inr h ↦ omega (arith, get_or_past counts i 0 (omega arith))
+  ];
+  total = λ i. elim (cases_lt i cells) [
+    | inl h ↦ omega (arith, counted i h, below.total i)
+    | inr h ↦ omega (arith, get_or_past totals i 0 (omega arith))
+  ];
+  square = λ i. elim (cases_lt i cells) [
+    | inl h ↦ omega (arith, counted i h, below.square i)
+    | inr h ↦ omega (arith, get_or_past squares i 0 (omega arith))
+  ];
+}
 
--- then some were counted of each cell
-pub some_counted : (value : ℕ → ℕ → ℕ) (cells n : ℕ) (lows highs counts totals squares : List ℕ) → 0 < n
+-- ---- values between the bounds
+
+sum_split : (f : ℕ → ℕ) (b : Bool) (x : ℕ) (ys zs : List ℕ)
+    → sum_by f (cond b (x ∷ ys) ys) + sum_by f (cond (not b) (x ∷ zs) zs) ≡ f x + (sum_by f ys + sum_by f zs)
+sum_split f true x ys zs = omega (arith, sum_by-cons f x ys)
+sum_split f false x ys zs = omega (arith, sum_by-cons f x zs)
+
+sum_both : (f : ℕ → ℕ) (p : ℕ → Bool) (xs : List ℕ)
+    → sum_by f (filter p xs) + sum_by f (filter (λ x. not (p x)) xs) ≡ sum_by f xs
+sum_both f p [] = refl
+sum_both f p (x ∷ xs) =
+    sum_split f (p x) x (filter p xs) (filter (λ y. not (p y)) xs)
+    ∙ ap (λ s. f x + s) (sum_both f p xs) ∙ sym (sum_by-cons f x xs)
+
+left_of : (all far near left : ℕ) → near + far ≡ all → left ≡ all - far → left ≡ near
+left_of all far near left both is = omega arith
+
+pub near_moments : (value : ℕ → ℕ → ℕ) (cells n : ℕ) (lows highs counts totals squares far_counts far_totals far_squares
+    counts' totals' squares' : List ℕ)
+    → ((i : ℕ) → i < cells → moments_held counts totals squares i ≡ moments (column value n i))
+    → AreFarSums value cells n lows highs far_counts far_totals far_squares
+    → LeavesOut cells counts totals squares far_counts far_totals far_squares counts' totals' squares'
+    → (i : ℕ) → i < cells
+    → moments_held counts' totals' squares' i ≡ moments (near_column value lows highs n i)
+near_moments value cells n lows highs counts totals squares far_counts far_totals far_squares counts' totals' squares'
+    all far leaves i here =
+    let xs = column value n i in
+    let p = is_between (slice_index lows i) (slice_index highs i) in
+    let is = all i here in
+    let count = ap (λ (m : Moments). m.count) is in
+    let total = ap (λ (m : Moments). m.total) is in
+    let square = ap (λ (m : Moments). m.squares) is in
+    let near = filter p xs in
+    moments_same _ _ _ (length near) (sum_by (λ x. x) near) (sum_by (λ x. x * x) near)
+    (left_of (length xs) _ (length near) _ (length-filter_both p (λ x. not (p x)) (λ x. refl) xs)
+    (leaves.count i here ∙ ap (λ a. a - slice_index far_counts i) count
+    ∙ ap (λ b. length xs - b) (far.count i here)))
+    (left_of (sum_by (λ x. x) xs) _ (sum_by (λ x. x) near) _ (sum_both (λ x. x) p xs)
+    (leaves.total i here ∙ ap (λ a. a - slice_index far_totals i) total
+    ∙ ap (λ b. sum_by (λ x. x) xs - b) (far.total i here)))
+    (left_of (sum_by (λ x. x * x) xs) _ (sum_by (λ x. x * x) near) _ (sum_both (λ x. x * x) p xs)
+    (leaves.square i here ∙ ap (λ a. a - slice_index far_squares i) square
+    ∙ ap (λ b. sum_by (λ x. x * x) xs - b) (far.square i here)))
+
+sum_kept : (f : ℕ → ℕ) (most : ℕ) (b : Bool) (x : ℕ) (ys : List ℕ) → f x ≤ most → sum_by f ys ≤ length ys * most
+    → sum_by f (cond b (x ∷ ys) ys) ≤ length (cond b (x ∷ ys) ys) * most
+sum_kept f most true x ys small rest =
+    let e : length (x ∷ ys) * most ≡ length ys * most + most = omega arith in
+    omega (arith, sum_by-cons f x ys)
+sum_kept f most false x ys small rest = rest
+
+sum_most : (f : ℕ → ℕ) (most : ℕ) (p : ℕ → Bool) (g : ℕ → ℕ) (a n : ℕ)
+    → ((t : ℕ) → a ≤ t → t < a + n → f (g t) ≤ most)
+    → sum_by f (filter p (map g (range_with_len a n))) ≤ length (filter p (map g (range_with_len a n))) * most
+sum_most f most p g a zero small = omega arith
+sum_most f most p g a (suc n) small =
+    sum_kept f most (p (g a)) (g a) (filter p (map g (range_with_len (a + 1) n)))
+    (small a (omega arith) (omega arith))
+    (sum_most f most p g (a + 1) n (λ t low high. small t (omega arith) (omega arith)))
+
+near_few : (p : ℕ → Bool) (xs : List ℕ) → length (filter p xs) ≤ length xs
+near_few p xs = let e = length-filter p xs in let h = count_by-le-length p xs in omega arith
+
+pub near_small : (value : ℕ → ℕ → ℕ) (cells n : ℕ) (lows highs counts totals squares : List ℕ) → n ≤ 1048576
+    → length counts ≡ cells → length totals ≡ cells → length squares ≡ cells
     → ((t i : ℕ) → t < n → i < cells → value t i ≤ 4194303)
-    → lows ≡ replicate cells 0 → highs ≡ replicate cells 4294967295
-    → AreSums value cells n lows highs counts totals squares
-    → (i : ℕ) → i < cells → 0 < slice_index counts i
-some_counted value cells n lows highs counts totals squares some small low_is high_is sums i here =
-    let low : slice_index lows i ≡ 0 = ap (λ l. slice_index l i) low_is ∙ get_or-replicate cells i 0 0 here in
-    let high : slice_index highs i ≡ 4294967295 =
-    ap (λ l. slice_index l i) high_is ∙ get_or-replicate cells i 4294967295 0 here in
-    omega (
-      arith,
-      sums.count i here,
-      ap length (all_counted value n i _ _ low high (λ t lt. omega (arith, small t i lt here))),
-      length-map-range_with_len (λ t. value t i) 0 n,
-    )
+    → ((i : ℕ) → i < cells → moments_held counts totals squares i ≡ moments (near_column value lows highs n i))
+    → AreSmall 1048576 counts totals squares
+near_small value cells n lows highs counts totals squares few lc lt ls small near = record {
+  count = λ i. elim (cases_lt i cells) [
+    | inl h ↦
+        let is = ap (λ (m : Moments). m.count) (near i h) in
+        omega (
+          arith,
+          is,
+          near_few (is_between (slice_index lows i) (slice_index highs i)) (column value n i),
+          length-map-range_with_len (λ t. value t i) 0 n,
+        )
+    | inr h ↦ omega (arith, get_or_past counts i 0 (omega arith))
+  ];
+  total = λ i. elim (cases_lt i cells) [
+    | inl h ↦
+        let counted = ap (λ (m : Moments). m.count) (near i h) in
+        let is = ap (λ (m : Moments). m.total) (near i h) in
+        let most = sum_most (λ x. x) 4194303 (is_between (slice_index lows i) (slice_index highs i)) (λ t. value t i) 0 n
+        (λ t from to. small t i (omega arith) h) in
+        omega (arith, counted, is, most)
+    | inr h ↦ omega (arith, get_or_past totals i 0 (omega arith))
+  ];
+  square = λ i. elim (cases_lt i cells) [
+    | inl h ↦
+        let counted = ap (λ (m : Moments). m.count) (near i h) in
+        let is = ap (λ (m : Moments). m.squares) (near i h) in
+        let most = sum_most (λ x. x * x) 17592177655809 (is_between (slice_index lows i) (slice_index highs i))
+        (λ t. value t i) 0 n
+        (λ t from to.
+        let e : value t i * value t i ≤ 4194303 * 4194303 =
+        mul-le-mul (small t i (omega arith) h) (small t i (omega arith) h) in
+        omega (arith, e)) in
+        omega (arith, counted, is, most)
+    | inr h ↦ omega (arith, get_or_past squares i 0 (omega arith))
+  ];
+}
 
 -- scales that are set, of as many cells as another number says
 pub sets_for : {n m : ℕ} {p : Plan} {mark : ℕ → Bool} {moments : ℕ → Moments}
@@ -79,6 +173,15 @@ pub sets_for : {n m : ℕ} {p : Plan} {mark : ℕ → Bool} {moments : ℕ → M
 sets_for same sets = record {
   set = λ i lt. sets.set i (omega arith);
   kept = sets.kept;
+}
+
+pub leaves_for : {n m : ℕ} {counts totals squares far_counts far_totals far_squares counts' totals' squares' : List ℕ}
+    → n ≡ m → LeavesOut n counts totals squares far_counts far_totals far_squares counts' totals' squares'
+    → LeavesOut m counts totals squares far_counts far_totals far_squares counts' totals' squares'
+leaves_for same leaves = record {
+  count = λ i lt. leaves.count i (omega arith);
+  total = λ i lt. leaves.total i (omega arith);
+  square = λ i lt. leaves.square i (omega arith);
 }
 
 -- the moments of the values near the mean, where some are there, or else of all
@@ -99,33 +202,25 @@ fair_is p b xs scale first m is some none first_is = elim (cases_lt 0 (length (n
 ]
 
 pub fair_scales : (p : Plan) (mark : ℕ → Bool) (value : ℕ → ℕ → ℕ) (cells n : ℕ)
-    (all_lows all_highs counts totals squares lows highs counts' totals' squares' : List ℕ)
+    (counts totals squares lows highs counts' totals' squares' : List ℕ)
     (gains bases lifts gains' bases' lifts' gains'' bases'' lifts'' : List ℕ)
-    → 0 < n → ((t i : ℕ) → t < n → i < cells → value t i ≤ 4194303)
-    → all_lows ≡ replicate cells 0 → all_highs ≡ replicate cells 4294967295
-    → AreSums value cells n all_lows all_highs counts totals squares
+    → ((t i : ℕ) → t < n → i < cells → value t i ≤ 4194303)
+    → ((i : ℕ) → i < cells → moments_held counts totals squares i ≡ moments (column value n i))
+    → ((i : ℕ) → i < cells → 0 < slice_index counts i)
     → AreNear cells counts totals squares lows highs
     → SetsScales cells p mark (moments_held counts totals squares) gains bases lifts gains' bases' lifts'
-    → AreSums value cells n lows highs counts' totals' squares'
+    → ((i : ℕ) → i < cells → moments_held counts' totals' squares' i ≡ moments (near_column value lows highs n i))
     → SetsScales cells p mark (moments_held counts' totals' squares') gains' bases' lifts' gains'' bases'' lifts''
     → (i : ℕ) → i < cells
     → scale_held gains'' bases'' lifts'' i ≡ scale_of p (mark i) (fair_moments (column value n i))
-fair_scales p mark value cells n all_lows all_highs counts totals squares lows highs counts' totals' squares'
-    gains bases lifts gains' bases' lifts' gains'' bases'' lifts'' some small low_is high_is sums near set sums' set' i here =
+fair_scales p mark value cells n counts totals squares lows highs counts' totals' squares'
+    gains bases lifts gains' bases' lifts' gains'' bases'' lifts'' small all some near set all' set' i here =
     let xs = column value n i in
-    let long : length xs ≡ n = length-map-range_with_len (λ t. value t i) 0 n in
-    let low : slice_index all_lows i ≡ 0 = ap (λ l. slice_index l i) low_is ∙ get_or-replicate cells i 0 0 here in
-    let high : slice_index all_highs i ≡ 4294967295 =
-    ap (λ l. slice_index l i) high_is ∙ get_or-replicate cells i 4294967295 0 here in
-    let all : moments_held counts totals squares i ≡ moments xs =
-    sums_are value cells n all_lows all_highs counts totals squares xs i sums here
-    (all_counted value n i _ _ low high (λ t lt. omega (arith, small t i lt here))) in
-    let near_ones : counted value lows highs n i ≡ near_values xs =
+    let near_ones : near_column value lows highs n i ≡ near_values xs =
     filters_agree (is_between (slice_index lows i) (slice_index highs i)) (is_near (moments xs)) (λ t. value t i) 0 n
     (λ t from to. near.near i (value t i) here (omega (arith, small t i (omega arith) here))
-    ∙ ap (λ m. is_near m (value t i)) all) in
+    ∙ ap (λ m. is_near m (value t i)) (all i here)) in
     fair_is p (mark i) xs _ (scale_held gains' bases' lifts' i) (moments_held counts' totals' squares' i)
-    (sums_are value cells n lows highs counts' totals' squares' (near_values xs) i sums' here near_ones)
+    (all' i here ∙ ap moments near_ones)
     (set'.set i here) (set'.kept i)
-    (set.set i here (omega (arith, sums.count i here, ap (λ (w : Moments). w.count) all))
-    ∙ ap (scale_of p (mark i)) all)
+    (set.set i here (some i here) ∙ ap (scale_of p (mark i)) (all i here))

@@ -51,3 +51,7 @@ filtered_length_more f p n =
     ap length (filter_of_map_range_with_len_more p f 0 n n (omega arith))
     ∙ length-append (filter p (map f (range_with_len 0 n))) (cond (p (f n)) (f n ∷ []) [])
     ∙ ap (λ s. length (filter p (map f (range_with_len 0 n))) + s) (length_if (p (f n)) (f n))
+
+pub mapped_sum_more : (g f : ℕ → ℕ) (n : ℕ) → sum_by g (map f (range_with_len 0 (n + 1)))
+    ≡ sum_by g (map f (range_with_len 0 n)) + g (f n)
+mapped_sum_more g f n = sum_by-map-range_with_len_more g f 0 n n (omega arith)

@@ -1,15 +1,14 @@
 -- A spectrum that is levelled, and one more.
-use Rattle.std.proofs.Common.{◌≡◌, ℕ, zero, suc, ◌+◌, ◌-◌, ◌*◌, ◌/◌, ◌%◌, ◌<◌, ◌++◌, min, List, [], length, take, map, slice_index, refl, sym, ◌∙◌, ap, subst, append_assoc, append-nil, arith}
+use Rattle.std.proofs.Common.{◌≡◌, ℕ, ◌+◌, ◌-◌, ◌*◌, ◌/◌, ◌%◌, ◌<◌, ◌++◌, min, List, [], length, take, slice_index, refl, sym, ◌∙◌, ap, subst, append_assoc, append-nil, arith}
 use Rattle.std.specs.List.{range_with_len, flat_map}
 use Rattle.std.proofs.lemmas.List.FromFn.{fill_by_all}
 use Rattle.band_level.proofs.Ranges.{flat_map_range_more}
-use Rattle.band_level.specs.declared.format.Format.{Format}
-use Rattle.band_level.specs.declared.plan.Plan.{Plan}
 use Rattle.band_level.specs.Values.{Band, cells, cell_value}
 use Rattle.band_level.specs.Scales.{Scale, unit}
-use Rattle.band_level.specs.Levelled.{Task, scale_at, fine, fine_before, whole, level, value_bytes, spectrum_levels}
+use Rattle.band_level.specs.Finished.{finished}
+use Rattle.band_level.specs.Levelled.{Task, is_masked, scale_at, fine, fine_before, whole, level, value_bytes, spectrum_levels}
 use Rattle.band_level.specs.Rows.{LevelsRow, HoldScales, units_at}
-use Rattle.band_level.specs.Spectra.{AreHeld, Carried, LevelsSpectra, task_of}
+use Rattle.band_level.specs.Spectra.{AreHeld, Carried, LevelsSpectra}
 use Rattle.band_level.proofs.Ranges.{sum_range_more}
 
 -- what all spectra before have, and one more
@@ -54,35 +53,27 @@ module _ (k : Task) (b : Band) (t : ℕ) (row gains bases lifts fractions levels
       ∙ ap (λ v. min k.plan.most (v - slice_index lifts i)) (here i lt).1
       ∙ ap (λ (s : Scale). min k.plan.most (whole k b i t - s.lift)) (scales i lt)
 
-flat_map_of_map : (f : ℕ → List ℕ) (g : ℕ → ℕ) (a n : ℕ)
-    → flat_map f (map g (range_with_len a n)) ≡ flat_map (λ i. f (g i)) (range_with_len a n)
-flat_map_of_map f g a zero = refl
-flat_map_of_map f g a (suc n) = ap (λ ys. f (g a) ++ ys) (flat_map_of_map f g (a + 1) n)
-
--- a map over a range, by its values
-flat_map_same : (f : ℕ → List ℕ) (g : ℕ → ℕ) (n : ℕ) (xs : List ℕ) → length xs ≡ n
-    → ((i : ℕ) → i < n → slice_index xs i ≡ g i)
-    → flat_map f xs ≡ flat_map (λ i. f (g i)) (range_with_len 0 n)
-flat_map_same f g n xs long same =
-    ap (flat_map f) (fill_by_all g xs n 0 long same) ∙ flat_map_of_map f g 0 n
-
-pub spectrum_written : (k : Task) (b : Band) (t : ℕ) (levels : List ℕ) → length levels ≡ cells k.format
+pub spectrum_written : (k : Task) (b : Band) (t : ℕ) (levels done : List ℕ) → length levels ≡ cells k.format
     → ((i : ℕ) → i < cells k.format → slice_index levels i ≡ level k b i t)
-    → flat_map (value_bytes k.plan.bits) levels ≡ spectrum_levels k b t
+    → done ≡ finished k.plan (is_masked k) levels
+    → flat_map (value_bytes k.plan.bits) done ≡ spectrum_levels k b t
 unfolding spectrum_levels
-spectrum_written k b t levels long is =
-    flat_map_same (value_bytes k.plan.bits) (λ i. level k b i t) (cells k.format) levels long is
+spectrum_written k b t levels done long is finishes =
+    ap (flat_map (value_bytes k.plan.bits))
+    (finishes ∙ ap (finished k.plan (is_masked k))
+    (fill_by_all (λ i. level k b i t) levels (cells k.format) 0 long is))
 
 -- one spectrum that is held
-pub one_levelled : (f : Format) (p : Plan) (held gains bases lifts row levels old new before after : List ℕ) (first : ℕ)
-    → length row ≡ cells f → length levels ≡ cells f
-    → LevelsRow p.most row gains bases lifts old levels new
-    → ((i : ℕ) → i < cells f → slice_index row i ≡ cell_value f held first i)
-    → after ≡ before ++ flat_map (value_bytes p.bits) levels
-    → LevelsSpectra f p held gains bases lifts first 1 old new before after
-one_levelled f p held gains bases lifts row levels old new before after first long levels_long levelled read wrote
-    masked b start is_held carried =
-    let k = task_of f p masked in
+pub one_levelled : (k : Task) (held gains bases lifts row levels done old new before after : List ℕ) (first : ℕ)
+    → length row ≡ cells k.format → length levels ≡ cells k.format
+    → LevelsRow k.plan.most row gains bases lifts old levels new
+    → ((i : ℕ) → i < cells k.format → slice_index row i ≡ cell_value k.format held first i)
+    → done ≡ finished k.plan (is_masked k) levels
+    → after ≡ before ++ flat_map (value_bytes k.plan.bits) done
+    → LevelsSpectra k held gains bases lifts first 1 old new before after
+one_levelled k held gains bases lifts row levels done old new before after first long levels_long levelled read finishes
+    wrote b start is_held carried =
+    let f = k.format in
     let at : first + 0 ≡ first = omega arith in
     let on : start + 0 ≡ start = omega arith in
     let values : (i : ℕ) → i < cells f → slice_index row i ≡ b.value start i =
@@ -93,20 +84,20 @@ one_levelled f p held gains bases lifts row levels old new before after first lo
     record {
       carried = spectrum_carried k b start row gains bases lifts old levels new long levelled values scales carried;
       written = wrote ∙ ap (λ xs. before ++ xs)
-          (spectrum_written k b start levels levels_long
-          (spectrum_level k b start row gains bases lifts old levels new long levelled values scales carried)
+          (spectrum_written k b start levels done levels_long
+          (spectrum_level k b start row gains bases lifts old levels new long levelled values scales carried) finishes
           ∙ sym (append-nil (spectrum_levels k b start)));
     }
 
 -- and one more behind others
-pub spectra_more : (f : Format) (p : Plan) (held gains bases lifts old mid new before middle after : List ℕ)
+pub spectra_more : (k : Task) (held gains bases lifts old mid new before middle after : List ℕ)
     (first count at : ℕ) → at ≡ first + count
-    → LevelsSpectra f p held gains bases lifts first count old mid before middle
-    → LevelsSpectra f p held gains bases lifts at 1 mid new middle after
-    → LevelsSpectra f p held gains bases lifts first (count + 1) old new before after
-spectra_more f p held gains bases lifts old mid new before middle after first count at is_at so_far one
-    masked b start is_held carried =
-    let k = task_of f p masked in
+    → LevelsSpectra k held gains bases lifts first count old mid before middle
+    → LevelsSpectra k held gains bases lifts at 1 mid new middle after
+    → LevelsSpectra k held gains bases lifts first (count + 1) old new before after
+spectra_more k held gains bases lifts old mid new before middle after first count at is_at so_far one
+    b start is_held carried =
+    let f = k.format in
     let front : AreHeld k b start count held first gains bases lifts = record {
       values = λ t i lt here. is_held.values t i (omega arith) here;
       scales = λ t lt. is_held.scales t (omega arith);
@@ -121,8 +112,8 @@ spectra_more f p held gains bases lifts old mid new before middle after first co
           let to : start + count ≡ start + count + t = omega arith in
           subst (λ (u : ℕ). HoldScales (cells f) (scale_at k b u) gains bases lifts) to (is_held.scales count (omega arith));
     } in
-    let before_it = so_far masked b start front carried in
-    let it = one masked b (start + count) last before_it.carried in
+    let before_it = so_far b start front carried in
+    let it = one b (start + count) last before_it.carried in
     let next : start + count + 1 ≡ start + (count + 1) = omega arith in
     record {
       carried = subst (λ (t : ℕ). Carried k b t new) next it.carried;
@@ -135,19 +126,19 @@ spectra_more f p held gains bases lifts old mid new before middle after first co
     }
 
 -- the same for a part of what is written to
-pub spectra_next : (f : Format) (p : Plan) (held gains bases lifts old mid new before middle out : List ℕ)
+pub spectra_next : (k : Task) (held gains bases lifts old mid new before middle out : List ℕ)
     (first count m n : ℕ) → m ≡ n
-    → LevelsSpectra f p held gains bases lifts first count old mid before middle
-    → LevelsSpectra f p held gains bases lifts (first + count) 1 mid new middle (take m out)
-    → LevelsSpectra f p held gains bases lifts first (count + 1) old new before (take n out)
-spectra_next f p held gains bases lifts old mid new before middle out first count m n same so_far one =
-    spectra_more f p held gains bases lifts old mid new before middle (take n out) first count (first + count) refl so_far
-    (subst (λ (j : ℕ). LevelsSpectra f p held gains bases lifts (first + count) 1 mid new middle (take j out)) same one)
+    → LevelsSpectra k held gains bases lifts first count old mid before middle
+    → LevelsSpectra k held gains bases lifts (first + count) 1 mid new middle (take m out)
+    → LevelsSpectra k held gains bases lifts first (count + 1) old new before (take n out)
+spectra_next k held gains bases lifts old mid new before middle out first count m n same so_far one =
+    spectra_more k held gains bases lifts old mid new before middle (take n out) first count (first + count) refl so_far
+    (subst (λ (j : ℕ). LevelsSpectra k held gains bases lifts (first + count) 1 mid new middle (take j out)) same one)
 
-pub spectra_all : (f : Format) (p : Plan) (held gains bases lifts old new out : List ℕ)
+pub spectra_all : (k : Task) (held gains bases lifts old new out : List ℕ)
     (first t count m n : ℕ) → t ≡ count → m ≡ n
-    → LevelsSpectra f p held gains bases lifts first t old new [] (take m out)
-    → LevelsSpectra f p held gains bases lifts first count old new [] (take n out)
-spectra_all f p held gains bases lifts old new out first t count m n all same levels =
-    subst (λ (j : ℕ). LevelsSpectra f p held gains bases lifts first count old new [] (take j out)) same
-    (subst (λ (j : ℕ). LevelsSpectra f p held gains bases lifts first j old new [] (take m out)) all levels)
+    → LevelsSpectra k held gains bases lifts first t old new [] (take m out)
+    → LevelsSpectra k held gains bases lifts first count old new [] (take n out)
+spectra_all k held gains bases lifts old new out first t count m n all same levels =
+    subst (λ (j : ℕ). LevelsSpectra k held gains bases lifts first count old new [] (take j out)) same
+    (subst (λ (j : ℕ). LevelsSpectra k held gains bases lifts first j old new [] (take m out)) all levels)

@@ -153,7 +153,7 @@ gives_by l mid m count range some next some_count makes on over =
     record { few = makes.few; levels = makes.levels } on_it over_it
 
 pub makes_piece : (v l : Levelling) (count : ℕ) (fractions piece : List ℕ) → v ≡ l → v.first + count ≤ v.last
-    → LevelsSpectra v.task.format v.task.plan v.held v.gains v.bases v.lifts v.first count v.fractions fractions [] piece
+    → LevelsSpectra v.task v.held v.gains v.bases v.lifts v.first count v.fractions fractions [] piece
     → MakesPiece l (record v { fractions = fractions; piece = piece }) count
 makes_piece v l count fractions piece view few levels =
     subst (λ (x : Levelling). MakesPiece x (record v { fractions = fractions; piece = piece }) count) view

@@ -4,8 +4,7 @@ use Rattle.std.proofs.Math.Nat.{mul-le-mul_right, div-mul-le_self}
 use Rattle.std.proofs.lemmas.Bool.{cases_lt}
 use Rattle.std.proofs.lemmas.List.{take_at, get_or_past, get_or-replicate}
 use Rattle.std.proofs.lemmas.Simd.{length-replicate}
-use Rattle.band_level.specs.declared.format.Format.{Format}
-use Rattle.band_level.specs.declared.plan.Plan.{Plan}
+use Rattle.band_level.specs.Levelled.{Task}
 use Rattle.band_level.specs.Spectra.{LevelsSpectra}
 use Rattle.band_level.specs.Scales.{Scale}
 use Rattle.band_level.specs.Rows.{HoldScales, ScalesFit}
@@ -29,19 +28,20 @@ scales_in cells scale gains bases lifts gains' bases' lifts' g b l holds i lt =
     ∙ holds i lt
 
 -- the levelling of lists that are the same
-pub levels_in : (f : Format) (p : Plan) (held gains bases lifts old new piece held' gains' bases' lifts' old' new' piece' : List ℕ)
-    (first count : ℕ) → held ≡ held' → gains ≡ gains' → bases ≡ bases' → lifts ≡ lifts' → old ≡ old' → new ≡ new'
-    → piece ≡ piece' → LevelsSpectra f p held gains bases lifts first count old new [] piece
-    → LevelsSpectra f p held' gains' bases' lifts' first count old' new' [] piece'
-levels_in f p held gains bases lifts old new piece held' gains' bases' lifts' old' new' piece' first count a b c d e g h
+pub levels_in : (k k' : Task) (held gains bases lifts old new piece held' gains' bases' lifts' old' new' piece' : List ℕ)
+    (first count : ℕ) → k ≡ k' → held ≡ held' → gains ≡ gains' → bases ≡ bases' → lifts ≡ lifts' → old ≡ old' → new ≡ new'
+    → piece ≡ piece' → LevelsSpectra k held gains bases lifts first count old new [] piece
+    → LevelsSpectra k' held' gains' bases' lifts' first count old' new' [] piece'
+levels_in k k' held gains bases lifts old new piece held' gains' bases' lifts' old' new' piece' first count t a b c d e g h
     levels =
-    subst (λ (x : List ℕ). LevelsSpectra f p held' gains' bases' lifts' first count old' new' [] x) h
-    (subst (λ (x : List ℕ). LevelsSpectra f p held' gains' bases' lifts' first count old' x [] piece) g
-    (subst (λ (x : List ℕ). LevelsSpectra f p held' gains' bases' lifts' first count x new [] piece) e
-    (subst (λ (x : List ℕ). LevelsSpectra f p held' gains' bases' x first count old new [] piece) d
-    (subst (λ (x : List ℕ). LevelsSpectra f p held' gains' x lifts first count old new [] piece) c
-    (subst (λ (x : List ℕ). LevelsSpectra f p held' x bases lifts first count old new [] piece) b
-    (subst (λ (x : List ℕ). LevelsSpectra f p x gains bases lifts first count old new [] piece) a levels))))))
+    subst (λ (x : List ℕ). LevelsSpectra k' held' gains' bases' lifts' first count old' new' [] x) h
+    (subst (λ (x : List ℕ). LevelsSpectra k' held' gains' bases' lifts' first count old' x [] piece) g
+    (subst (λ (x : List ℕ). LevelsSpectra k' held' gains' bases' lifts' first count x new [] piece) e
+    (subst (λ (x : List ℕ). LevelsSpectra k' held' gains' bases' x first count old new [] piece) d
+    (subst (λ (x : List ℕ). LevelsSpectra k' held' gains' x lifts first count old new [] piece) c
+    (subst (λ (x : List ℕ). LevelsSpectra k' held' x bases lifts first count old new [] piece) b
+    (subst (λ (x : List ℕ). LevelsSpectra k' x gains bases lifts first count old new [] piece) a
+    (subst (λ (x : Task). LevelsSpectra x held gains bases lifts first count old new [] piece) t levels)))))))
 
 -- ---- lists of zeroes
 

@@ -7,6 +7,7 @@ use Rattle.band_level.specs.declared.plan.Plan.{Plan}
 use Rattle.band_level.specs.Values.{Band, band, cells}
 use Rattle.band_level.specs.Moments.{fair_moments}
 use Rattle.band_level.specs.Scales.{Scale, scale_of, unit}
+use Rattle.band_level.specs.Finished.{finished}
 
 -- what is levelled: how it is read, what it becomes, and which channels are masked, in the order of the file
 pub record Task : Type 0 where
@@ -57,9 +58,13 @@ fine_before k b i t = sum_by (fine k b i) (range_with_len 0 t)
 abbrev pub whole : Task → Band → ℕ → ℕ → ℕ
 whole k b i t = fine_before k b i (t + 1) / unit - fine_before k b i t / unit
 
--- the value that is written: at least 0, at most the greatest value
+-- the level of a cell: at least 0, at most the greatest value
 abbrev pub level : Task → Band → ℕ → ℕ → ℕ
 level k b i t = min k.plan.most (whole k b i t - (scale_at k b t i).lift)
+
+-- the levels of a spectrum
+abbrev pub spectrum_values : Task → Band → ℕ → List ℕ
+spectrum_values k b t = map (λ i. level k b i t) (range_with_len 0 (cells k.format))
 
 -- ---- bytes
 
@@ -69,8 +74,8 @@ value_bytes bits v = if bits == 16 then v % 256 ∷ v / 256 ∷ [] else v ∷ []
 
 -- a spectrum as it is written, and the first spectra of a band
 unfoldable pub spectrum_levels : Task → Band → ℕ → List ℕ
-spectrum_levels k b t =
-    flat_map (λ i. value_bytes k.plan.bits (level k b i t)) (range_with_len 0 (cells k.format))
+spectrum_levels k b t = flat_map (value_bytes k.plan.bits)
+    (finished k.plan (is_masked k) (spectrum_values k b t))
 
 unfoldable pub first_levels : Task → Band → ℕ → List ℕ
 first_levels k b n = flat_map (spectrum_levels k b) (range_with_len 0 n)

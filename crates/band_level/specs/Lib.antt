@@ -1,6 +1,8 @@
 pub mod Values
 pub mod Moments
 pub mod Scales
+pub mod Finished
+pub mod Shares
 pub mod Levelled
 pub mod Ranges
 pub mod Levelling

@@ -1,6 +1,6 @@
 -- How a row of values is levelled and written.
 -- Source: this project's choice.
-use Rattle.std.specs.Prelude.{ℕ, ◌≡◌, ◌+◌, ◌-◌, ◌*◌, ◌/◌, ◌%◌, ◌<◌, ◌≤◌, Bool, List, length, min, slice_index}
+use Rattle.std.specs.Prelude.{ℕ, ◌≡◌, ◌+◌, ◌-◌, ◌*◌, ◌/◌, ◌%◌, ◌^◌, ◌<◌, ◌≤◌, Bool, List, length, min, slice_index}
 use Rattle.band_level.specs.declared.plan.Plan.{Plan}
 use Rattle.band_level.specs.Moments.{Moments}
 use Rattle.band_level.specs.Scales.{Scale, scale_of, unit, most_gain}
@@ -38,6 +38,37 @@ scale_held gains bases lifts i = record {
 abbrev pub HoldScales : ℕ → (ℕ → Scale) → List ℕ → List ℕ → List ℕ → Type 0
 HoldScales cells scale gains bases lifts =
     (i : ℕ) → i < cells → scale_held gains bases lifts i ≡ scale i
+
+-- the scale of a cell in 32 bits, with room for all that is made of values up to `most`
+pub record NarrowAt (most gain base lift g b l : ℕ) : Type 0 where
+  pub same_gain : g ≡ gain
+  pub same_base : b ≡ base
+  pub same_lift : l ≡ lift
+  pub room : base + gain * most + unit ≤ 2 ^ 32
+
+-- the scales of cells in 32 bits
+abbrev pub AreNarrow : ℕ → ℕ → List ℕ → List ℕ → List ℕ → List ℕ → List ℕ → List ℕ → Type 0
+AreNarrow cells most gains bases lifts narrow_gains narrow_bases narrow_lifts =
+    (i : ℕ) → i < cells → NarrowAt most (slice_index gains i) (slice_index bases i)
+    (slice_index lifts i) (slice_index narrow_gains i) (slice_index narrow_bases i)
+    (slice_index narrow_lifts i)
+
+pub record FarLong (cells : ℕ) (counts totals squares : List ℕ) : Type 0 where
+  pub counts_long : length counts ≡ cells
+  pub totals_long : length totals ≡ cells
+  pub squares_long : length squares ≡ cells
+
+pub record NarrowLong (cells : ℕ) (gains bases lifts : List ℕ) : Type 0 where
+  pub gains_long : length gains ≡ cells
+  pub bases_long : length bases ≡ cells
+  pub lifts_long : length lifts ≡ cells
+
+-- what was carried on, and lists of working space
+pub record RowsFit (cells : ℕ) (fractions row levels : List ℕ) : Type 0 where
+  pub fractions_long : length fractions ≡ cells
+  pub carried : (i : ℕ) → slice_index fractions i < unit
+  pub row_long : length row ≡ cells
+  pub levels_long : length levels ≡ cells
 
 -- each cell of which values were counted has the scale of its moments; others keep theirs
 pub record SetsScales (cells : ℕ) (p : Plan) (is_masked : ℕ → Bool) (moments : ℕ → Moments)

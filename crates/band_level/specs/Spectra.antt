@@ -35,11 +35,11 @@ pub record AreLevelled (k : Task) (b : Band) (start count : ℕ) (new before aft
 abbrev pub task_of : Format → Plan → List Bool → Task
 task_of f p masked = record { format = f; plan = p; masked = masked }
 
--- so many spectra that are held are levelled, of whichever band they are
-abbrev pub LevelsSpectra : Format → Plan → List ℕ → List ℕ → List ℕ → List ℕ → ℕ → ℕ
+-- spectra that are held are levelled, of whichever band they are
+abbrev pub LevelsSpectra : Task → List ℕ → List ℕ → List ℕ → List ℕ → ℕ → ℕ
     → List ℕ → List ℕ → List ℕ → List ℕ → Type 0
-LevelsSpectra f p held gains bases lifts first count old new before after =
-    (masked : List Bool) (b : Band) (start : ℕ)
-    → AreHeld (task_of f p masked) b start count held first gains bases lifts
-    → Carried (task_of f p masked) b start old
-    → AreLevelled (task_of f p masked) b start count new before after
+LevelsSpectra k held gains bases lifts first count old new before after =
+    (b : Band) (start : ℕ)
+    → AreHeld k b start count held first gains bases lifts
+    → Carried k b start old
+    → AreLevelled k b start count new before after

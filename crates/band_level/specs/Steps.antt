@@ -31,7 +31,7 @@ pub record Measures (l m : Levelling) (count : ℕ) : Type 0 where
 pub record MakesPiece (l m : Levelling) (count : ℕ) : Type 0 where
   pub same : m ≡ record l { fractions = m.fractions; piece = m.piece }
   pub few : l.first + count ≤ l.last
-  pub levels : LevelsSpectra l.task.format l.task.plan l.held l.gains l.bases l.lifts
+  pub levels : LevelsSpectra l.task l.held l.gains l.bases l.lifts
       l.first count l.fractions m.fractions [] m.piece
 
 -- a whole stretch is to be levelled

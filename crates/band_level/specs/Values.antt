@@ -35,6 +35,10 @@ value_at f bytes j =
     else (word_at f bytes j + 128) % 256)
     else word_at f bytes j
 
+-- no value of a cell is greater
+abbrev pub most_value : Format → ℕ
+most_value f = f.average * (if f.bits == 16 then 65535 else 255)
+
 -- the value of cell i of spectrum t: the sum over neighbouring spectra
 abbrev pub cell_value : Format → List ℕ → ℕ → ℕ → ℕ
 cell_value f bytes t i =

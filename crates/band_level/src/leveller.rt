@@ -4,7 +4,7 @@ ghost use Rattle.band_level.specs.Values.{cells, spectrum_bytes};
 ghost use Rattle.band_level.specs.Ranges.{FormatInRange, PlanInRange};
 ghost use Rattle.band_level.specs.Levelling.{Levelling, Levels, Takes, Gives, EndsAs, IsDone, pending};
 ghost use Rattle.band_level.specs.Steps.{Begins, MakesPiece, Measures, stretch_bytes};
-ghost use Rattle.band_level.specs.Rows.{AreLong, ScalesFit};
+ghost use Rattle.band_level.specs.Rows.{AreLong, FarLong, NarrowLong, ScalesFit};
 ghost use Rattle.band_level.specs.Sound.{PieceFits, StretchFits, TaskFits};
 
 use crate::format::Format;
@@ -39,8 +39,11 @@ pub struct Leveller {
     gains: Vec<u64>,
     bases: Vec<u64>,
     lifts: Vec<u64>,
-    fractions: Vec<u64>,
-    // working space: a row of values, its levels, and the sums of each cell with its bounds
+    fractions: Vec<u32>,
+    // working space: scales of 32 bits, a row of values, its levels, and the sums of each cell with its bounds
+    narrow_gains: Vec<u32>,
+    narrow_bases: Vec<u32>,
+    narrow_lifts: Vec<u32>,
     row: Vec<u32>,
     levels: Vec<u32>,
     lows: Vec<u32>,
@@ -48,6 +51,10 @@ pub struct Leveller {
     counts: Vec<u32>,
     totals: Vec<u64>,
     squares: Vec<u64>,
+    // the sums of the values beyond the bounds
+    far_counts: Vec<u32>,
+    far_totals: Vec<u64>,
+    far_squares: Vec<u64>,
     // room for levelled bytes, of which so many are filled
     piece: Vec<u8>,
     made: usize,
@@ -76,6 +83,10 @@ impl Model for Leveller {
       scales : ScalesFit (cells l.format) l.gains.items l.bases.items l.lifts.items;
       space : AreLong (cells l.format) l.row.items l.lows.items l.highs.items l.counts.items
           l.totals.items l.squares.items;
+      far : FarLong (cells l.format) l.far_counts.items l.far_totals.items
+          l.far_squares.items;
+      narrow : NarrowLong (cells l.format) l.narrow_gains.items l.narrow_bases.items
+          l.narrow_lifts.items;
       piece : PieceFits l.format l.plan l.fractions.items l.levels.items l.piece.items l.made;
     } };
 }
@@ -114,7 +125,10 @@ impl Leveller {
             gains: longs(alloc, cells)?,
             bases: longs(alloc, cells)?,
             lifts: longs(alloc, cells)?,
-            fractions: longs(alloc, cells)?,
+            fractions: words(alloc, cells)?,
+            narrow_gains: words(alloc, cells)?,
+            narrow_bases: words(alloc, cells)?,
+            narrow_lifts: words(alloc, cells)?,
             row: words(alloc, cells)?,
             levels: words(alloc, cells)?,
             lows: words(alloc, cells)?,
@@ -122,6 +136,9 @@ impl Leveller {
             counts: words(alloc, cells)?,
             totals: longs(alloc, cells)?,
             squares: longs(alloc, cells)?,
+            far_counts: words(alloc, cells)?,
+            far_totals: longs(alloc, cells)?,
+            far_squares: longs(alloc, cells)?,
             piece: bytes(alloc, (PIECE / written).max(1) * written)?,
             made: 0,
         })
@@ -210,6 +227,9 @@ impl Leveller {
             self.counts.as_mut_slice(),
             self.totals.as_mut_slice(),
             self.squares.as_mut_slice(),
+            self.far_counts.as_mut_slice(),
+            self.far_totals.as_mut_slice(),
+            self.far_squares.as_mut_slice(),
             self.gains.as_mut_slice(),
             self.bases.as_mut_slice(),
             self.lifts.as_mut_slice(),
@@ -247,11 +267,15 @@ impl Leveller {
             &self.held.as_slice()[..self.filled],
             self.format,
             self.plan,
+            self.masked.as_slice(),
             self.first,
             count,
             self.gains.as_slice(),
             self.bases.as_slice(),
             self.lifts.as_slice(),
+            self.narrow_gains.as_mut_slice(),
+            self.narrow_bases.as_mut_slice(),
+            self.narrow_lifts.as_mut_slice(),
             self.fractions.as_mut_slice(),
             self.row.as_mut_slice(),
             self.levels.as_mut_slice(),

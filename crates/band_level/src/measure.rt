@@ -1,16 +1,17 @@
 // The scales of all cells, by the values of a stretch.
 ghost use Rattle.std.specs.Prelude.{◌≡◌, ℕ, ◌*◌, ◌/◌, ◌<◌, ◌≤◌, ◌≢◌, ◌⊎◌, length, slice_index};
 ghost use Rattle.band_level.specs.Values.{cells, spectrum_bytes, cell_value};
-ghost use Rattle.band_level.specs.Moments.{fair_moments};
-ghost use Rattle.band_level.specs.Columns.{AreNear, AreSmall, column, moments_held};
-ghost use Rattle.band_level.specs.Rows.{AreLong, HoldScales, ScalesFit, SetsScales, scale_held};
+ghost use Rattle.band_level.specs.Moments.{moments, fair_moments};
+ghost use Rattle.band_level.specs.Columns.{AreNear, AreSmall, column, near_column, moments_held};
+ghost use Rattle.band_level.specs.Rows.{AreLong, FarLong, HoldScales, ScalesFit, SetsScales, scale_held};
 ghost use Rattle.band_level.specs.Scales.{scale_of};
 ghost use Rattle.band_level.specs.Sizes.{MomentsInRange, moments_of};
 ghost use Rattle.band_level.specs.Ranges.{FormatInRange, PlanInRange};
 ghost use Rattle.band_level.specs.Levelled.{marks_cell};
+ghost use Rattle.band_level.specs.Sound.{TaskFits};
 
 use crate::format::Format;
-use crate::moments::add_up;
+use crate::moments::{add_up, add_up_far, leave_out};
 use crate::plan::Plan;
 use crate::scale::{Moments, near_bounds, scale_of_cell};
 
@@ -101,6 +102,79 @@ fn set_scales(
     }
 }
 
+// The moments of all values of each cell.
+fn measure_all(
+    bytes: &[u8],
+    format: Format,
+    count: usize,
+    row: &mut [u32],
+    counts: &mut [u32],
+    totals: &mut [u64],
+    squares: &mut [u64],
+)
+    requires format { FormatInRange format }
+    requires inside { count * spectrum_bytes format ≤ length bytes.now }
+    requires some { 0 < count }
+    requires most { count ≤ 1048576 }
+    requires row { length row.old ≡ cells format }
+    requires sums { FarLong (cells format) counts.old totals.old squares.old }
+    ensures moments { (i : ℕ) → i < cells format
+        → moments_held counts.new totals.new squares.new i
+        ≡ moments (column (cell_value format bytes.now) count i) }
+    ensures some { (i : ℕ) → i < cells format → 0 < slice_index counts.new i }
+    ensures small { AreSmall 1048576 counts.new totals.new squares.new }
+    ensures values { (t i : ℕ) → t < count → i < cells format
+        → cell_value format bytes.now t i ≤ 4194303 }
+{
+    counts.fill(count as u32);
+    add_up(bytes, format, count, row, totals, squares);
+}
+
+// The moments of the values of each cell between its bounds, from those of all.
+fn measure_near(
+    bytes: &[u8],
+    format: Format,
+    count: usize,
+    row: &mut [u32],
+    lows: &[u32],
+    highs: &[u32],
+    counts: &mut [u32],
+    totals: &mut [u64],
+    squares: &mut [u64],
+    far_counts: &mut [u32],
+    far_totals: &mut [u64],
+    far_squares: &mut [u64],
+)
+    requires format { FormatInRange format }
+    requires inside { count * spectrum_bytes format ≤ length bytes.now }
+    requires most { count ≤ 1048576 }
+    requires space { AreLong (cells format) row.old lows.now highs.now counts.old totals.old
+        squares.old }
+    requires far { FarLong (cells format) far_counts.old far_totals.old far_squares.old }
+    requires moments { (i : ℕ) → i < cells format
+        → moments_held counts.old totals.old squares.old i
+        ≡ moments (column (cell_value format bytes.now) count i) }
+    requires values { (t i : ℕ) → t < count → i < cells format
+        → cell_value format bytes.now t i ≤ 4194303 }
+    ensures moments { (i : ℕ) → i < cells format
+        → moments_held counts.new totals.new squares.new i
+        ≡ moments (near_column (cell_value format bytes.now) lows.now highs.now count i) }
+    ensures small { AreSmall 1048576 counts.new totals.new squares.new }
+{
+    add_up_far(
+        bytes,
+        format,
+        count,
+        row,
+        lows,
+        highs,
+        far_counts,
+        far_totals,
+        far_squares,
+    );
+    leave_out(counts, totals, squares, far_counts, far_totals, far_squares);
+}
+
 /// The scale of each cell by the values of `count` spectra. The row, the bounds and the sums are working space.
 pub fn measure(
     bytes: &[u8],
@@ -114,18 +188,20 @@ pub fn measure(
     counts: &mut [u32],
     totals: &mut [u64],
     squares: &mut [u64],
+    far_counts: &mut [u32],
+    far_totals: &mut [u64],
+    far_squares: &mut [u64],
     gains: &mut [u64],
     bases: &mut [u64],
     lifts: &mut [u64],
 )
-    requires format { FormatInRange format }
-    requires plan { PlanInRange plan }
-    requires masked { length masked.now ≡ format.channels }
+    requires task { TaskFits format plan masked.now }
     requires inside { count * spectrum_bytes format ≤ length bytes.now }
     requires some { 0 < count }
     requires most { count ≤ 1048576 }
     requires space { AreLong (cells format) row.old lows.old highs.old counts.old totals.old
         squares.old }
+    requires far { FarLong (cells format) far_counts.old far_totals.old far_squares.old }
     requires scales { ScalesFit (cells format) gains.old bases.old lifts.old }
     ensures fit { ScalesFit (cells format) gains.new bases.new lifts.new }
     ensures scales { HoldScales (cells format)
@@ -133,13 +209,9 @@ pub fn measure(
         (fair_moments (column (cell_value format bytes.now) count i)))
         gains.new bases.new lifts.new }
 {
-    lows.fill(0);
-    highs.fill(u32::MAX);
-    add_up(
-        bytes, format, count, row, lows, highs, counts, totals, squares,
-    );
-    set_bounds(counts, totals, squares, lows, highs);
     let polarisations = format.polarisations;
+    measure_all(bytes, format, count, row, counts, totals, squares);
+    set_bounds(counts, totals, squares, lows, highs);
     set_scales(
         plan,
         masked,
@@ -151,8 +223,19 @@ pub fn measure(
         bases,
         lifts,
     );
-    add_up(
-        bytes, format, count, row, lows, highs, counts, totals, squares,
+    measure_near(
+        bytes,
+        format,
+        count,
+        row,
+        lows,
+        highs,
+        counts,
+        totals,
+        squares,
+        far_counts,
+        far_totals,
+        far_squares,
     );
     set_scales(
         plan,

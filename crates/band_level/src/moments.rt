@@ -1,47 +1,64 @@
-// The sums of each cell in a stretch, of the values between two bounds.
-ghost use Rattle.std.specs.Prelude.{◌≡◌, ℕ, ◌+◌, ◌*◌, ◌<◌, ◌≤◌, length, slice_index};
+// The sums of each cell in a stretch: of all values, and of those beyond two bounds.
+ghost use Rattle.std.specs.Prelude.{◌≡◌, ℕ, ◌+◌, ◌*◌, ◌<◌, ◌≤◌, false, length, slice_index};
 ghost use Rattle.band_level.specs.Values.{cells, spectrum_bytes, cell_value};
 ghost use Rattle.band_level.specs.Ranges.{FormatInRange};
-ghost use Rattle.band_level.specs.Columns.{AddsRow, AreSums, AreSmall, part_of};
+ghost use Rattle.band_level.specs.Rows.{FarLong};
+ghost use Rattle.band_level.specs.Columns.{AddsFar, AreBelow, AreFarSums, AreSmall, AreTotals, LeavesOut, far_part};
 
 use crate::format::Format;
 use crate::row::read_row;
 
-// A value, where it lies between the bounds; else 0.
+// A value beyond the bounds; else 0.
 #[inline(always)]
-fn kept(low: u32, high: u32, x: u32) -> u32
-    ensures kept { result ≡ part_of low high x x }
+fn far(low: u32, high: u32, x: u32) -> u32
+    ensures far { result ≡ far_part low high x x }
     ensures most { result ≤ x }
 {
-    if low <= x && x <= high { x } else { 0 }
+    if low <= x && x <= high { 0 } else { x }
 }
 
-// 1, where a value lies between the bounds; else 0.
+// 1 for a value beyond the bounds; else 0.
 #[inline(always)]
 fn one(low: u32, high: u32, x: u32) -> u32
-    ensures one { result ≡ part_of low high x 1 }
+    ensures one { result ≡ far_part low high x 1 }
     ensures most { result ≤ 1 }
 {
-    if low <= x && x <= high { 1 } else { 0 }
+    if low <= x && x <= high { 0 } else { 1 }
 }
 
-// Counts the values of a row that lie between the bounds, and sets the others to 0.
-fn keep_row(row: &mut [u32], lows: &[u32], highs: &[u32], counts: &mut [u32])
+// Whether a value of a row lies beyond the bounds of its cell.
+fn any_far(row: &[u32], lows: &[u32], highs: &[u32]) -> bool
+    requires lows { length lows.now ≡ length row.now }
+    requires highs { length highs.now ≡ length row.now }
+    requires few { length row.now ≤ 8192 }
+    ensures { result ≡ false → (i : ℕ) → i < length row.now
+        → far_part (slice_index lows.now i) (slice_index highs.now i) (slice_index row.now i) 1
+        ≡ 0 }
+{
+    let mut count = 0;
+    for i in 0..row.len() {
+        count += one(lows[i], highs[i], row[i]);
+    }
+    count != 0
+}
+
+// Counts the values of a row beyond the bounds, and sets the others to 0.
+fn keep_far(row: &mut [u32], lows: &[u32], highs: &[u32], counts: &mut [u32])
     requires lows { length lows.now ≡ length row.old }
     requires highs { length highs.now ≡ length row.old }
     requires counts { length counts.old ≡ length row.old }
     requires small { (i : ℕ) → slice_index counts.old i ≤ 1048575 }
     ensures keeps { (i : ℕ) → i < length row.old → slice_index row.new i
-        ≡ part_of (slice_index lows.now i) (slice_index highs.now i) (slice_index row.old i)
+        ≡ far_part (slice_index lows.now i) (slice_index highs.now i) (slice_index row.old i)
         (slice_index row.old i) }
     ensures counts { (i : ℕ) → i < length row.old → slice_index counts.new i
         ≡ slice_index counts.old i
-        + part_of (slice_index lows.now i) (slice_index highs.now i) (slice_index row.old i) 1 }
+        + far_part (slice_index lows.now i) (slice_index highs.now i) (slice_index row.old i) 1 }
     ensures fewer { (i : ℕ) → slice_index row.new i ≤ slice_index row.old i }
 {
     for i in 0..row.len() {
         counts[i] += one(lows[i], highs[i], row[i]);
-        row[i] = kept(lows[i], highs[i], row[i]);
+        row[i] = far(lows[i], highs[i], row[i]);
     }
 }
 
@@ -81,8 +98,8 @@ fn add_squares(row: &[u32], squares: &mut [u64])
     }
 }
 
-// Adds a row of values to the sums; of the row it leaves those that were added.
-fn add_row(
+// Adds the values of a row beyond the bounds to the sums; of the row it leaves those that were added, if any were.
+fn add_far(
     row: &mut [u32],
     lows: &[u32],
     highs: &[u32],
@@ -92,23 +109,70 @@ fn add_row(
 )
     requires lows { length lows.now ≡ length row.old }
     requires highs { length highs.now ≡ length row.old }
-    requires counts { length counts.old ≡ length row.old }
-    requires totals { length totals.old ≡ length row.old }
-    requires squares { length squares.old ≡ length row.old }
+    requires few { length row.old ≤ 8192 }
+    requires sums { FarLong (length row.old) counts.old totals.old squares.old }
     requires values { (i : ℕ) → slice_index row.old i ≤ 4194303 }
     requires small { AreSmall 1048575 counts.old totals.old squares.old }
-    ensures adds { AddsRow lows.now highs.now row.old counts.old totals.old squares.old
+    ensures adds { AddsFar lows.now highs.now row.old counts.old totals.old squares.old
         counts.new totals.new squares.new }
     ensures small { (n : ℕ) → AreSmall n counts.old totals.old squares.old
         → AreSmall (n + 1) counts.new totals.new squares.new }
 {
-    keep_row(row, lows, highs, counts);
+    if any_far(row, lows, highs) {
+        keep_far(row, lows, highs, counts);
+        add_totals(row, totals);
+        add_squares(row, squares);
+    }
+}
+
+// Adds all values of a row to the sums.
+fn add_row(row: &[u32], totals: &mut [u64], squares: &mut [u64])
+    requires totals { length totals.old ≡ length row.now }
+    requires squares { length squares.old ≡ length row.now }
+    requires values { (i : ℕ) → slice_index row.now i ≤ 4194303 }
+    requires small { AreBelow 1048575 totals.old squares.old }
+    ensures totals { (i : ℕ) → i < length row.now → slice_index totals.new i
+        ≡ slice_index totals.old i + slice_index row.now i }
+    ensures squares { (i : ℕ) → i < length row.now → slice_index squares.new i
+        ≡ slice_index squares.old i + slice_index row.now i * slice_index row.now i }
+    ensures small { (n : ℕ) → AreBelow n totals.old squares.old
+        → AreBelow (n + 1) totals.new squares.new }
+{
     add_totals(row, totals);
     add_squares(row, squares);
 }
 
 /// Makes the sums of `count` spectra. The row is working space.
 pub fn add_up(
+    bytes: &[u8],
+    format: Format,
+    count: usize,
+    row: &mut [u32],
+    totals: &mut [u64],
+    squares: &mut [u64],
+)
+    requires format { FormatInRange format }
+    requires inside { count * spectrum_bytes format ≤ length bytes.now }
+    requires most { count ≤ 1048576 }
+    requires row { length row.old ≡ cells format }
+    requires totals { length totals.old ≡ cells format }
+    requires squares { length squares.old ≡ cells format }
+    ensures sums { AreTotals (cell_value format bytes.now) (cells format) count totals.new
+        squares.new }
+    ensures small { AreBelow count totals.new squares.new }
+    ensures values { (t i : ℕ) → t < count → i < cells format
+        → cell_value format bytes.now t i ≤ 4194303 }
+{
+    totals.fill(0);
+    squares.fill(0);
+    for t in 0..count {
+        read_row(row, bytes, format, t);
+        add_row(row, totals, squares);
+    }
+}
+
+/// Makes the sums of the values of `count` spectra that lie beyond the bounds of their cells. The row is working space.
+pub fn add_up_far(
     bytes: &[u8],
     format: Format,
     count: usize,
@@ -125,20 +189,36 @@ pub fn add_up(
     requires row { length row.old ≡ cells format }
     requires lows { length lows.now ≡ cells format }
     requires highs { length highs.now ≡ cells format }
-    requires counts { length counts.old ≡ cells format }
-    requires totals { length totals.old ≡ cells format }
-    requires squares { length squares.old ≡ cells format }
-    ensures sums { AreSums (cell_value format bytes.now) (cells format) count lows.now highs.now
-        counts.new totals.new squares.new }
-    ensures small { AreSmall count counts.new totals.new squares.new }
-    ensures values { (t i : ℕ) → t < count → i < cells format
-        → cell_value format bytes.now t i ≤ 4194303 }
+    requires sums { FarLong (cells format) counts.old totals.old squares.old }
+    ensures sums { AreFarSums (cell_value format bytes.now) (cells format) count lows.now
+        highs.now counts.new totals.new squares.new }
 {
     counts.fill(0);
     totals.fill(0);
     squares.fill(0);
     for t in 0..count {
         read_row(row, bytes, format, t);
-        add_row(row, lows, highs, counts, totals, squares);
+        add_far(row, lows, highs, counts, totals, squares);
+    }
+}
+
+/// Leaves sums out of other sums.
+pub fn leave_out(
+    counts: &mut [u32],
+    totals: &mut [u64],
+    squares: &mut [u64],
+    far_counts: &[u32],
+    far_totals: &[u64],
+    far_squares: &[u64],
+)
+    requires sums { FarLong (length counts.old) counts.old totals.old squares.old }
+    requires far { FarLong (length counts.old) far_counts.now far_totals.now far_squares.now }
+    ensures { LeavesOut (length counts.old) counts.old totals.old squares.old far_counts.now
+        far_totals.now far_squares.now counts.new totals.new squares.new }
+{
+    for i in 0..counts.len() {
+        counts[i] = counts[i].saturating_sub(far_counts[i]);
+        totals[i] = totals[i].saturating_sub(far_totals[i]);
+        squares[i] = squares[i].saturating_sub(far_squares[i]);
     }
 }

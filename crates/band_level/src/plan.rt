@@ -13,4 +13,9 @@ pub struct Plan {
     pub most: u32,
     /// How many bits are written of a value: 8, or 16 with the low byte first.
     pub bits: u32,
+    /// A spectrum whose sum lies farther from its mean than this many deviations, in thousandths, is written as the
+    /// mean. `None`: no spectrum is.
+    pub clip: Option<u32>,
+    /// Whether the mean of each spectrum is taken out.
+    pub zero_dm: bool,
 }

@@ -1,9 +1,50 @@
 // The values of a spectrum, read from bytes.
-ghost use Rattle.std.specs.Prelude.{◌≡◌, ℕ, ◌+◌, ◌*◌, ◌/◌, ◌<◌, ◌≤◌, ◌⊎◌, length, slice_index};
-ghost use Rattle.band_level.specs.Values.{cells, spectrum_bytes, read_bytes, word_at, value_at, cell_value};
+ghost use Rattle.std.specs.Prelude.{◌≡◌, ℕ, ◌+◌, ◌*◌, ◌/◌, ◌%◌, ◌<◌, ◌≤◌, ◌⊎◌, length, slice_index, if◌then◌else◌};
+ghost use Rattle.band_level.specs.Values.{cells, spectrum_bytes, read_bytes, word_at, value_at, cell_value, most_value};
 ghost use Rattle.band_level.specs.Ranges.{FormatInRange};
 
 use crate::format::Format;
+
+// A byte as a value; with a sign it is counted from the least one on.
+#[inline(always)]
+fn byte_value(byte: u8, signed: bool) -> u32
+    ensures value { result ≡ (if signed then (byte + 128) % 256 else byte) }
+    ensures small { result ≤ 255 }
+{
+    let offset = if signed { 128 } else { 0 };
+    (u32::from(byte) + offset) % 256
+}
+
+// Sets a row to a spectrum of bytes.
+fn set_bytes(row: &mut [u32], bytes: &[u8], format: Format, spectrum: usize)
+    requires bits { format.bits ≡ 8 }
+    requires cells { length row.old ≡ cells format }
+    requires inside { (spectrum + 1) * read_bytes format ≤ length bytes.now }
+    ensures set { (i : ℕ) → i < cells format → slice_index row.new i
+        ≡ value_at format bytes.now (spectrum * cells format + i) }
+    ensures small { (i : ℕ) → slice_index row.new i ≤ 255 }
+{
+    let start = spectrum * row.len();
+    for i in 0..row.len() {
+        row[i] = byte_value(bytes[start + i], format.signed);
+    }
+}
+
+// Adds a spectrum of bytes to a row.
+fn add_bytes(row: &mut [u32], bytes: &[u8], format: Format, spectrum: usize)
+    requires bits { format.bits ≡ 8 }
+    requires cells { length row.old ≡ cells format }
+    requires inside { (spectrum + 1) * read_bytes format ≤ length bytes.now }
+    requires small { (i : ℕ) → slice_index row.old i ≤ 4194304 }
+    ensures added { (i : ℕ) → i < cells format → slice_index row.new i
+        ≡ slice_index row.old i + value_at format bytes.now (spectrum * cells format + i) }
+    ensures few { (i : ℕ) → slice_index row.new i ≤ slice_index row.old i + 255 }
+{
+    let start = spectrum * row.len();
+    for i in 0..row.len() {
+        row[i] += byte_value(bytes[start + i], format.signed);
+    }
+}
 
 // Value `j` of the bytes, without a sign.
 #[inline(always)]
@@ -63,6 +104,39 @@ fn add_spectrum(row: &mut [u32], bytes: &[u8], format: Format, spectrum: usize)
     }
 }
 
+// Reads spectrum `t` of bytes of 8 bits.
+fn read_narrow(row: &mut [u32], bytes: &[u8], format: Format, t: usize)
+    requires format { FormatInRange format }
+    requires bits { format.bits ≡ 8 }
+    requires cells { length row.old ≡ cells format }
+    requires inside { (t + 1) * spectrum_bytes format ≤ length bytes.now }
+    ensures values { (i : ℕ) → i < cells format
+        → slice_index row.new i ≡ cell_value format bytes.now t i }
+    ensures small { (i : ℕ) → slice_index row.new i ≤ format.average * 255 }
+{
+    let average = format.average as usize;
+    set_bytes(row, bytes, format, t * average);
+    for k in 1..average {
+        add_bytes(row, bytes, format, t * average + k);
+    }
+}
+
+// Reads spectrum `t` of bytes of either width.
+fn read_wide(row: &mut [u32], bytes: &[u8], format: Format, t: usize)
+    requires format { FormatInRange format }
+    requires cells { length row.old ≡ cells format }
+    requires inside { (t + 1) * spectrum_bytes format ≤ length bytes.now }
+    ensures values { (i : ℕ) → i < cells format
+        → slice_index row.new i ≡ cell_value format bytes.now t i }
+    ensures small { (i : ℕ) → slice_index row.new i ≤ format.average * 65535 }
+{
+    row.fill(0);
+    let average = format.average as usize;
+    for k in 0..average {
+        add_spectrum(row, bytes, format, t * average + k);
+    }
+}
+
 /// Reads spectrum `t` of the bytes.
 pub fn read_row(row: &mut [u32], bytes: &[u8], format: Format, t: usize)
     requires format { FormatInRange format }
@@ -70,11 +144,11 @@ pub fn read_row(row: &mut [u32], bytes: &[u8], format: Format, t: usize)
     requires inside { (t + 1) * spectrum_bytes format ≤ length bytes.now }
     ensures values { (i : ℕ) → i < cells format
         → slice_index row.new i ≡ cell_value format bytes.now t i }
-    ensures small { (i : ℕ) → slice_index row.new i < 4194304 }
+    ensures small { (i : ℕ) → slice_index row.new i ≤ most_value format }
 {
-    row.fill(0);
-    let average = format.average as usize;
-    for k in 0..average {
-        add_spectrum(row, bytes, format, t * average + k);
+    if format.bits == 16 {
+        read_wide(row, bytes, format, t);
+    } else {
+        read_narrow(row, bytes, format, t);
     }
 }

@@ -1,11 +1,11 @@
 use Rattle.std.proofs.Common.{ℕ, ◌<◌, ◌≤◌}
 use Rattle.band_level.specs.Values.{cells, cell_value}
-use Rattle.band_level.specs.Columns.{AreSums, AreSmall}
+use Rattle.band_level.specs.Columns.{AreTotals, AreBelow}
 use Rattle.band_level.proofs.moments.add_up.Given as goal
 
 abbrev pub invariant-loop-t : goal.invariant-loop-t
 invariant-loop-t l = record {
-  sums : AreSums (cell_value l.format l.bytes) (cells l.format) l.t l.lows l.highs l.counts l.totals l.squares;
-  small : AreSmall l.t l.counts l.totals l.squares;
+  sums : AreTotals (cell_value l.format l.bytes) (cells l.format) l.t l.totals l.squares;
+  small : AreBelow l.t l.totals l.squares;
   values : (t i : ℕ) → t < l.t → i < cells l.format → cell_value l.format l.bytes t i ≤ 4194303;
 }

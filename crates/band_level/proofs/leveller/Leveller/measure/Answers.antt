@@ -6,12 +6,13 @@ use Rattle.band_level.proofs.leveller.Leveller.measure.Goals as goal
 pub invariant_of-self : goal.invariant_of-self
 invariant_of-self c =
     let space = c.self.invariant.space in
+    let far = c.self.invariant.far in
     let g = written c.measure.new.gains c.self.inside.gains.items c.self.inside.gains.len
-    (c.measure.auto.gains ∙ c.as_mut_slice-7.ensures.len) in
+    (c.measure.auto.gains ∙ c.as_mut_slice-10.ensures.len) in
     let b = written c.measure.new.bases c.self.inside.bases.items c.self.inside.bases.len
-    (c.measure.auto.bases ∙ c.as_mut_slice-8.ensures.len) in
+    (c.measure.auto.bases ∙ c.as_mut_slice-11.ensures.len) in
     let l = written c.measure.new.lifts c.self.inside.lifts.items c.self.inside.lifts.len
-    (c.measure.auto.lifts ∙ c.as_mut_slice-9.ensures.len) in
+    (c.measure.auto.lifts ∙ c.as_mut_slice-12.ensures.len) in
     record {
       task = c.self.invariant.task;
       stretch = c.self.invariant.stretch;
@@ -30,17 +31,26 @@ invariant_of-self c =
         squares_long = long_written c.measure.new.squares _ _ _ (c.measure.auto.squares ∙ c.as_mut_slice-6.ensures.len)
             (sym c.as_mut_slice-6.ensures.len ∙ ap length c.as_mut_slice-6.ensures.value ∙ space.squares_long);
       };
+      far = record {
+        counts_long = long_written c.measure.new.far_counts _ _ _ (c.measure.auto.far_counts ∙ c.as_mut_slice-7.ensures.len)
+            (sym c.as_mut_slice-7.ensures.len ∙ ap length c.as_mut_slice-7.ensures.value ∙ far.counts_long);
+        totals_long = long_written c.measure.new.far_totals _ _ _ (c.measure.auto.far_totals ∙ c.as_mut_slice-8.ensures.len)
+            (sym c.as_mut_slice-8.ensures.len ∙ ap length c.as_mut_slice-8.ensures.value ∙ far.totals_long);
+        squares_long = long_written c.measure.new.far_squares _ _ _ (c.measure.auto.far_squares ∙ c.as_mut_slice-9.ensures.len)
+            (sym c.as_mut_slice-9.ensures.len ∙ ap length c.as_mut_slice-9.ensures.value ∙ far.squares_long);
+      };
+      narrow = c.self.invariant.narrow;
       piece = c.self.invariant.piece;
     }
 
 pub returns : goal.returns
 returns c =
     let g = written c.measure.new.gains c.self.inside.gains.items c.self.inside.gains.len
-    (c.measure.auto.gains ∙ c.as_mut_slice-7.ensures.len) in
+    (c.measure.auto.gains ∙ c.as_mut_slice-10.ensures.len) in
     let b = written c.measure.new.bases c.self.inside.bases.items c.self.inside.bases.len
-    (c.measure.auto.bases ∙ c.as_mut_slice-8.ensures.len) in
+    (c.measure.auto.bases ∙ c.as_mut_slice-11.ensures.len) in
     let l = written c.measure.new.lifts c.self.inside.lifts.items c.self.inside.lifts.len
-    (c.measure.auto.lifts ∙ c.as_mut_slice-9.ensures.len) in
+    (c.measure.auto.lifts ∙ c.as_mut_slice-12.ensures.len) in
     measures _ c.args.self.now c.args.count _ _ c.measure.new.gains c.measure.new.bases c.measure.new.lifts _ _ _
     c.self.view_is c.as_slice-2.ensures.value
     (ap (λ (xs : List ℕ). take c.self.inside.filled xs) c.as_slice.ensures.value) g b l c.measure.ensures.scales

@@ -60,17 +60,27 @@ invariant_of-result c =
       };
       scales = zero_scales n _ _ _ c.in_ok-longs.ensures c.in_ok-longs-2.ensures c.in_ok-longs-3.ensures;
       space = record {
-        row_long = zero_long c.in_ok-words.field-0.items n c.in_ok-words.ensures;
-        lows_long = zero_long c.in_ok-words-3.field-0.items n c.in_ok-words-3.ensures;
-        highs_long = zero_long c.in_ok-words-4.field-0.items n c.in_ok-words-4.ensures;
-        counts_long = zero_long c.in_ok-words-5.field-0.items n c.in_ok-words-5.ensures;
-        totals_long = zero_long c.in_ok-longs-5.field-0.items n c.in_ok-longs-5.ensures;
-        squares_long = zero_long c.in_ok-longs-6.field-0.items n c.in_ok-longs-6.ensures;
+        row_long = zero_long c.in_ok-words-5.field-0.items n c.in_ok-words-5.ensures;
+        lows_long = zero_long c.in_ok-words-7.field-0.items n c.in_ok-words-7.ensures;
+        highs_long = zero_long c.in_ok-words-8.field-0.items n c.in_ok-words-8.ensures;
+        counts_long = zero_long c.in_ok-words-9.field-0.items n c.in_ok-words-9.ensures;
+        totals_long = zero_long c.in_ok-longs-4.field-0.items n c.in_ok-longs-4.ensures;
+        squares_long = zero_long c.in_ok-longs-5.field-0.items n c.in_ok-longs-5.ensures;
+      };
+      far = record {
+        counts_long = zero_long c.in_ok-words-10.field-0.items n c.in_ok-words-10.ensures;
+        totals_long = zero_long c.in_ok-longs-6.field-0.items n c.in_ok-longs-6.ensures;
+        squares_long = zero_long c.in_ok-longs-7.field-0.items n c.in_ok-longs-7.ensures;
+      };
+      narrow = record {
+        gains_long = zero_long c.in_ok-words-2.field-0.items n c.in_ok-words-2.ensures;
+        bases_long = zero_long c.in_ok-words-3.field-0.items n c.in_ok-words-3.ensures;
+        lifts_long = zero_long c.in_ok-words-4.field-0.items n c.in_ok-words-4.ensures;
       };
       piece = record {
-        fractions_long = zero_long c.in_ok-longs-4.field-0.items n c.in_ok-longs-4.ensures;
-        carried = λ i. omega (arith, zero_at c.in_ok-longs-4.field-0.items n c.in_ok-longs-4.ensures i);
-        levels_long = zero_long c.in_ok-words-2.field-0.items n c.in_ok-words-2.ensures;
+        fractions_long = zero_long c.in_ok-words.field-0.items n c.in_ok-words.ensures;
+        carried = λ i. omega (arith, zero_at c.in_ok-words.field-0.items n c.in_ok-words.ensures i);
+        levels_long = zero_long c.in_ok-words-6.field-0.items n c.in_ok-words-6.ensures;
         made_in = omega arith;
         room = omega (arith, least, piece);
       };
@@ -80,4 +90,4 @@ pub returns-clause-nothing : goal.returns-clause-nothing
 returns-clause-nothing c =
     let some = c.requires.plan.some_spectra in
     starts _ c.requires.format (omega arith) refl refl refl refl refl
-    (zero_at c.in_ok-longs-4.field-0.items (cells c.args.format) c.in_ok-longs-4.ensures)
+    (zero_at c.in_ok-words.field-0.items (cells c.args.format) c.in_ok-words.ensures)

@@ -1,7 +1,7 @@
 use Rattle.std.proofs.Common.{ℕ, ◌≡◌, ◌*◌, ◌<◌, ◌≤◌, slice_index}
 use Rattle.band_level.specs.Values.{cells}
 use Rattle.band_level.proofs.Values.{part_value}
-use Rattle.band_level.proofs.row.read_row.Given as goal
+use Rattle.band_level.proofs.row.read_wide.Given as goal
 
 abbrev pub invariant-loop-k : goal.invariant-loop-k
 invariant-loop-k l = record {

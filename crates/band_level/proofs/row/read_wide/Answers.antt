@@ -1,7 +1,7 @@
 use Rattle.std.proofs.Common.{arith}
 use Rattle.band_level.specs.Values.{read_bytes}
 use Rattle.band_level.proofs.Values.{read_inside, part_more}
-use Rattle.band_level.proofs.row.read_row.Goals as goal
+use Rattle.band_level.proofs.row.read_wide.Goals as goal
 
 pub add_spectrum-requires-clause-inside : goal.add_spectrum-requires-clause-inside
 add_spectrum-requires-clause-inside c =

@@ -2,7 +2,7 @@ use Rattle.std.proofs.Common.{◌-◌, ◌/◌, ◌%◌, min, slice_index}
 use Rattle.band_level.specs.Scales.{unit}
 use Rattle.band_level.specs.Rows.{units_at}
 use Rattle.band_level.proofs.Fills.{Fills}
-use Rattle.band_level.proofs.levels.level_row.Given as goal
+use Rattle.band_level.proofs.levels.level_wide.Given as goal
 
 abbrev pub invariant-loop-i : goal.invariant-loop-i
 invariant-loop-i l = record {
