@@ -86,6 +86,10 @@ BreaksWithin n old new = (k : ℕ) × (k < n) × (new ≡ moved_by k old)
 abbrev pub BreaksOff : ℕ → List ℕ → Told → Told → Type 0
 BreaksOff n name old new = (new ≡ old) ⊎ BreaksWithin n (opened name old) new
 
+-- a name was not opened, or it was and some of its bytes were read, but its end was not seen
+abbrev pub BreaksOpened : List ℕ → Told → Told → Type 0
+BreaksOpened name old new = (new ≡ old) ⊎ ((k : ℕ) × (new ≡ moved_by k (opened name old)))
+
 -- what is left once n more bytes were read
 abbrev pub rest_after : ℕ → Option (List ℕ) → Option (List ℕ)
 rest_after n left = option_map (drop n) left

@@ -2,7 +2,7 @@
 ghost use Rattle.std.specs.Prelude.{◌≡◌, ◌≢◌, ◌≤◌, ◌<◌, ℕ, length, vec_len, Err, IfOk, OnErr, IsOk, IsErr, IsSome};
 ghost use Rattle.std.specs.Option.{ForSome};
 ghost use Rattle.psr_base.specs.Inputs.{HasReadFrom};
-ghost use Rattle.psr_base.specs.Told.{left_to_read, rest_after, moved_by, at_end, filled_by, BreaksWithin, FillsFrom, ReadsJoin, OfFile};
+ghost use Rattle.psr_base.specs.Told.{left_to_read, rest_after, moved_by, at_end, opened, filled_by, BreaksWithin, BreaksOpened, FillsFrom, ReadsJoin, OfFile};
 
 use crate::faults::Failed;
 use crate::inputs::Inputs;
@@ -116,7 +116,7 @@ pub fn read_to_end<I: Inputs>(
 
 /// Opens the file of that name and reads all of it, as long as it is at most `limit` bytes.
 ///
-/// It stops as soon as more than `limit` bytes were read.
+/// It stops as soon as more than `limit` bytes were read. No other file is opened, and none twice.
 pub fn read_file<I: Inputs>(
     alloc: Global,
     inputs: &mut I,
@@ -126,6 +126,11 @@ pub fn read_file<I: Inputs>(
     ensures whole { IfOk result (λ bytes.
         OfFile (I.told inputs.old) name.now (λ file. bytes.items ≡ file)) }
     ensures within { IfOk result (λ bytes. vec_len bytes ≤ limit) }
+    ensures read { IfOk result (λ bytes. OfFile (I.told inputs.old) name.now
+        (λ _. I.told inputs.new
+        ≡ at_end (moved_by (vec_len bytes) (opened name.now (I.told inputs.old))))) }
+    ensures lost { OnErr result (OfFile (I.told inputs.old) name.now
+        (λ _. BreaksOpened name.now (I.told inputs.old) (I.told inputs.new))) }
 
     ensures too_long { result ≡ Err DataFault.TooLong
         → OfFile (I.told inputs.old) name.now (λ file. limit < length file) }

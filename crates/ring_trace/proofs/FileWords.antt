@@ -13,11 +13,17 @@ second_word (a ∷ []) w program name is are = absurd cc
 second_word (a ∷ b ∷ []) w program name is are = let same : string_bytes b ≡ name = cc in ap string_bytes is ∙ same
 second_word (a ∷ b ∷ d ∷ more) w program name is are = absurd cc
 
--- what is told of the file under the second word holds for the words
+-- what is told of the file under the second word, by its name, holds for the words
+pub for_named : (words : List (String Global)) (w : String Global) (told : Told)
+    (P : List ℕ → List ℕ → Type 0) → w ≡ get_or words 1 w →
+    OfFile told (string_bytes w) (P (string_bytes w)) →
+    (program name : List ℕ) → map string_bytes words ≡ program ∷ name ∷ [] → OfFile told name (P name)
+for_named words w told P is holds = λ program name are.
+    let Q : List ℕ → Type 0 = λ bytes. OfFile told bytes (P bytes) in subst Q (second_word words w program name is are) holds
+
 pub for_file : (words : List (String Global)) (w : String Global) (told : Told) (P : List ℕ → Type 0) →
     w ≡ get_or words 1 w → OfFile told (string_bytes w) P → ForFile (map string_bytes words) told P
-for_file words w told P is holds = λ program name are.
-    let Q : List ℕ → Type 0 = λ bytes. OfFile told bytes P in subst Q (second_word words w program name is are) holds
+for_file words w told P is holds = for_named words w told (λ name. P) is holds
 
 -- there are two words
 pub two_words : (words : List (String Global)) (status : ℕ) → length words ≡ 2 → status ≢ 2 →

@@ -36,7 +36,7 @@ pub fn run_trace<I: Inputs, K: Sink>(
           faults_before = I.faults inputs.old;
           faults_after = I.faults inputs.new;
         })
-        (I.is_calm inputs.old) (K.seen out.old) (K.seen out.new) result }
+        (I.is_calm inputs.old) (I.told inputs.new) (K.seen out.old) (K.seen out.new) result }
 {
     match answer_words(alloc, words, inputs, out) {
         Ok(()) => 0,
@@ -57,7 +57,8 @@ fn answer_words<I: Inputs, K: Sink>(
           faults_before = I.faults inputs.old;
           faults_after = I.faults inputs.new;
         })
-        (I.is_calm inputs.old) (K.seen out.old) (K.seen out.new) (end_status result) }
+        (I.is_calm inputs.old) (I.told inputs.new) (K.seen out.old) (K.seen out.new)
+        (end_status result) }
 {
     if words.len() != 2 {
         return Err(Stop::Words);

@@ -1,9 +1,9 @@
-use Rattle.std.proofs.Common.{◌≡◌, Bool, true, false, ◌⊎◌, inl, inr, List, ℕ, Result, Ok, Err, is_err, OnOk, OnErr, length, ◌≤◌, string_bytes, refl, subst, rules}
+use Rattle.std.proofs.Common.{◌≡◌, ◌≢◌, vec_len, ap, ◌∙◌, Bool, true, false, ◌⊎◌, inl, inr, List, ℕ, Result, Ok, Err, is_err, OnOk, OnErr, length, ◌≤◌, string_bytes, refl, subst, rules}
 use Rattle.psr_base.specs.Written.{WroteAll, WroteFront}
-use Rattle.psr_base.specs.Told.{OfFile}
+use Rattle.psr_base.specs.Told.{Told, OfFile, opened, moved_by, at_end}
 use Rattle.ring_trace.specs.Trace.{IsWhole, IsCut, AppendsCut, AppendsFront}
-use Rattle.ring_trace.specs.Run.{most_bytes}
-use Rattle.ring_trace.proofs.FileWords.{for_file, two_words}
+use Rattle.ring_trace.specs.Run.{ReadsTrace, ReadsWhole, most_bytes}
+use Rattle.ring_trace.proofs.FileWords.{for_file, for_named, two_words}
 use Rattle.ring_trace.proofs.answer_words.Goals as goal
 
 on_err : {T E : Type 0} (r : Result T E) (P : Type 0) → is_err r ≡ true → OnErr r P → P
@@ -18,10 +18,31 @@ either : (b : Bool) (P Q : Type 0) → (b ≡ true → P) → (b ≡ false → Q
 either true P Q p q = inl (p refl)
 either false P Q p q = inr (q refl)
 
+-- a status at which all of the file was read
+reads_whole : (words : List (List ℕ)) (before after : Told) (status : ℕ) → status ≢ 2 → status ≢ 6 → status ≢ 8 →
+    status ≢ 5 → ReadsWhole words before after → ReadsTrace words before after status
+reads_whole words before after status two six eight five read = record {
+  none = λ e. absurd (two e);
+  whole = λ _. read;
+  some = λ e. elim e [ inl is ↦ absurd (six is) | inr is ↦ absurd (eight is) ];
+  either = λ e. absurd (five e);
+}
+
+-- as many bytes as the file has were read of it, under a name that is the word's
+all_read : (told after : Told) (word name file : List ℕ) (n : ℕ) → word ≡ name →
+    OfFile told name (λ bytes. file ≡ bytes) → n ≡ length file →
+    OfFile told word (λ _. after ≡ at_end (moved_by n (opened word told))) →
+    OfFile told name (λ bytes. after ≡ at_end (moved_by (length bytes) (opened name told)))
+all_read told after word name file n named is count read = λ bytes known.
+    let Q : List ℕ → Type 0 = λ x. OfFile told x (λ _. after ≡ at_end (moved_by n (opened x told))) in
+    let same : n ≡ length bytes = count ∙ ap length (is bytes known) in
+    subst Q named read bytes known ∙ ap (λ (k : ℕ). at_end (moved_by k (opened name told))) same
+
 pub returns-then-is_err : goal.returns-then-is_err
 returns-then-is_err g c =
     let words = c.args.words.now in
     let told = g.I.Inputs.told c.args.inputs.now in
+    let after = g.I.Inputs.told c.read_file.new.inputs in
     let old = g.K.Sink.seen c.args.out.now in
     let new = g.K.Sink.seen c.write_all.new.sink in
     let file = c.as_slice.result.now in
@@ -45,6 +66,10 @@ returns-then-is_err g c =
             wrote = front;
           }));
       silent = λ e. search rules;
+      read = reads_whole _ told after 10 (λ e. cc) (λ e. cc) (λ e. cc) (λ e. cc) (for_named words _ told
+          (λ name bytes. after ≡ at_end (moved_by (length bytes) (opened name told))) c.index-words-1.is
+          (all_read told after _ _ file (vec_len c.in-Ok.file) (search rules) of_file (search rules)
+          c.in-Ok.ensures.read));
       words_refused = two_words words 10 two (λ e. cc);
       too_long = λ e. absurd cc;
       short = λ e. for_file words _ told _ c.index-words-1.is (λ bytes known.
@@ -62,6 +87,7 @@ pub returns : goal.returns
 returns g c =
     let words = c.args.words.now in
     let told = g.I.Inputs.told c.args.inputs.now in
+    let after = g.I.Inputs.told c.read_file.new.inputs in
     let old = g.K.Sink.seen c.args.out.now in
     let new = g.K.Sink.seen c.write_all.new.sink in
     let file = c.as_slice.result.now in
@@ -82,6 +108,10 @@ returns g c =
           (record { text = text; cut = c.in-Ok-replay.ensures.cut not_whole; wrote = all }));
       front = λ e. absurd cc;
       silent = search rules;
+      read = reads_whole _ told after 3 (λ e. cc) (λ e. cc) (λ e. cc) (λ e. cc) (for_named words _ told
+          (λ name bytes. after ≡ at_end (moved_by (length bytes) (opened name told))) c.index-words-1.is
+          (all_read told after _ _ file (vec_len c.in-Ok.file) (search rules) of_file (search rules)
+          c.in-Ok.ensures.read));
       words_refused = two_words words 3 two (λ e. cc);
       too_long = λ e. absurd cc;
       short = λ e. for_file words _ told _ c.index-words-1.is (λ bytes known.
