@@ -13,6 +13,7 @@ pub mod Readings
 pub mod TransferEnds
 pub mod Fillings
 pub mod Counting
+pub mod Cutting
 pub mod Missing
 pub mod Unopened
 pub mod Sealings

@@ -158,3 +158,12 @@ pub record KeepsBegun {I : Type 0} (old new : Feeder I) : Type 0 where
   pub reads_on : (before told : Told) → FeederRead before told old → FeederRead before told new
   pub faultless : FeederFaultless new
   pub running : has_end new ≡ None
+
+-- The blocks were made shorter. What is to be read, what was accepted, and how far the files were read stay.
+pub record IsCutTo {I : Type 0} (size : ℕ) (old new : Feeder I) : Type 0 where
+  pub size_is : block_size new ≡ size
+  pub plan : plan_at new ≡ plan_at old
+  pub place : place_at new ≡ place_at old
+  pub running : has_end new ≡ has_end old
+  pub begun : (told : Told) → IsBegun told old → IsBegun told new
+  pub reads_on : (before told : Told) → FeederRead before told old → FeederRead before told new

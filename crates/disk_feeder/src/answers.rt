@@ -4,12 +4,13 @@ use dada_header::HeaderFault;
 use obs_plan::ObsFault;
 use thiserror::Error;
 
-/// Why a later file's header is refused: its bytes are no header (`Text`); or it has other values than the transfer's
-/// first header, or no OBS_OFFSET from 0 to 10^15 bytes (`Fields`).
+/// Why a later file's header is refused.
 #[derive(Clone, Copy, Debug, PartialEq, Eq, Error)]
 pub enum HeaderCause {
+    /// Its bytes are no header.
     #[error("{0}")]
     Text(HeaderFault),
+    /// It has other values than the transfer's first header, or no OBS_OFFSET from 0 to 10^15 bytes.
     #[error("{0}")]
     Fields(ObsFault),
 }
@@ -20,7 +21,7 @@ pub enum FeedFault {
     /// The inputs failed.
     #[error("the inputs failed")]
     ReadFault,
-    /// The file with this number has no header.
+    /// The bytes of this file, counted from 0 over all transfers, begin with no header.
     #[error("header of file {file}: {cause}")]
     BadHeader { file: u32, cause: HeaderFault },
 }
@@ -28,24 +29,25 @@ pub enum FeedFault {
 /// How a stream of files ended. Files count from 0 over all transfers.
 #[derive(Clone, Copy, Debug, PartialEq, Eq)]
 pub enum FeedEnd {
-    /// All data were sealed: so many bytes.
+    /// All data, `bytes` of them, were sealed.
     Whole {
         bytes: u64,
     },
     /// The inputs failed.
     ReadFault,
-    /// The header of a file is refused.
+    /// The header of this file is refused.
     BadHeader {
         file: u32,
         cause: HeaderCause,
     },
-    /// The OBS_OFFSET of a file is not the one that continues its transfer.
+    /// The OBS_OFFSET of this file is `found`, but the one that continues its transfer is `expected`. Both are in
+    /// bytes.
     Gap {
         file: u32,
         expected: u64,
         found: u64,
     },
-    /// There are more data bytes than the limit.
+    /// There are more than `limit` data bytes.
     TooLong {
         limit: u64,
     },
@@ -56,7 +58,7 @@ pub enum FeedEnd {
 pub enum FeedTurn {
     /// It sealed one block, of a header or of data, and more are to come.
     Moved,
-    /// The ring was full: this reader had cleared so many of its blocks. The same block is tried in the next turn.
+    /// The ring was full: this reader had cleared `cleared` of its blocks. The block is tried again in the next turn.
     Waiting { reader: u32, cleared: u64 },
     /// It sealed the last block.
     Ended(FeedEnd),
@@ -65,8 +67,9 @@ pub enum FeedTurn {
 /// A block of data that a feeder hands out.
 #[derive(Clone, Copy, Debug, PartialEq, Eq)]
 pub struct Handed {
+    /// How the stream goes on after the block.
     pub mark: Mark,
-    /// How many bytes it has: the first of the space of the feeder's block.
+    /// How many bytes it has: the first of `Feeder::block`.
     pub used: usize,
     /// How the feeder ended, if this block is the last.
     pub end: Option<FeedEnd>,

@@ -19,8 +19,8 @@ use std::alloc::Global;
 // Laws: they do nothing when they run, and the proofs use what they ensure.
 use stream_model::{data_grow, data_none, first_files_continue};
 
-/// The space of a feeder: for the first header of each transfer, and for a block. All memory that a feeder needs is in
-/// it.
+/// The space of a feeder: for the first header of each transfer, and for a block. It has all memory that a feeder
+/// needs.
 #[derive(Drop)]
 pub struct FeederSpace<'a> {
     stream: Stream<'a>,
@@ -32,8 +32,8 @@ impl<'a> FeederSpace<'a> {
     ghost use Rattle.disk_feeder.specs.Resting.{feeder_over, at_rest, FeederStands, FeederKept};
     ghost use Rattle.psr_base.specs.Told.{Told};
 
-    /// Takes all space, for blocks of so many bytes. Transfer k begins with file `starts[k]`; all files together may
-    /// have `max_bytes` data bytes at most.
+    /// Takes all space, for blocks of `block` bytes. Transfer k begins with file `starts[k]`; all files together may
+    /// have at most `max_bytes` data bytes.
     pub fn reserve(
         alloc: Global,
         names: &'a [String],
@@ -53,7 +53,8 @@ impl<'a> FeederSpace<'a> {
         Ok(FeederSpace { stream })
     }
 
-    /// What the feeder at rest is to read, where its space was taken for these files and nothing was read.
+    /// A law: the plan of the feeder at rest, if its space was taken for these files and nothing was read. It does
+    /// nothing when it runs.
     pub fn rests(&self)
         ensures { (names : List (List ℕ)) (starts : List ℕ) (size max_bytes : ℕ)
             → IsSpaceFor self.now names starts size max_bytes
@@ -63,8 +64,8 @@ impl<'a> FeederSpace<'a> {
         let _ = &self.stream;
     }
 
-    /// Opens the first file of each transfer in order and reads its header, as `Feeder::begin` does, over inputs that
-    /// are lent to the feeder at rest for this call.
+    /// Opens the first file of each transfer in order and reads its header, from inputs that are lent for this call, as
+    /// `Feeder::begin` does.
     pub fn begin<I: Inputs>(&mut self, inputs: &mut I) -> Result<(), FeedFault>
         requires fresh { IsFresh (at_rest self.old) }
         ensures plan { SamePlan (at_rest self.old) (at_rest self.new) }
@@ -92,7 +93,7 @@ impl<'a> FeederSpace<'a> {
         self.stream.header_of(transfer)
     }
 
-    /// Keeps the observation of a transfer's first header, as `Feeder::accept` does, whatever is lent.
+    /// Keeps the observation of a transfer's first header, as `Feeder::accept` does. It needs no inputs.
     pub fn accept(&mut self, transfer: usize, observation: &Observation)
         requires there { transfer < length (headers_of (at_rest self.old)) }
         requires begun { (told : Told) × IsBegun told (at_rest self.old) }
@@ -110,8 +111,8 @@ impl<'a> FeederSpace<'a> {
         self.stream.accept(transfer, observation);
     }
 
-    /// Takes a turn of the feeder at rest, as `Feeder::turn` does, over inputs that are lent to it for this call. They
-    /// stand as the feeder left them.
+    /// Takes a turn of the feeder at rest, from inputs that are lent for this call, as `Feeder::turn` does. The inputs
+    /// must be as the feeder left them.
     pub fn turn<I: Inputs>(&mut self, inputs: &mut I, hdu: &Hdu, pass: &mut HduWriter) -> FeedTurn
         requires ring { WritesBoth hdu.now pass.old }
         requires running { has_end (feeder_over inputs.old self.old) ≡ None }
@@ -132,14 +133,16 @@ impl<'a> FeederSpace<'a> {
 /// Inputs that were borrowed, and the space of a feeder that read from them: what a feeder was made of.
 #[derive(Drop)]
 pub struct Lent<'a, I, S> {
+    /// The inputs.
     pub inputs: &'a mut I,
+    /// The space of the feeder, as it stopped.
     pub space: S,
 }
 
 /// Reads the files of one or more transfers from borrowed inputs, and seals their headers and their data.
 ///
 /// It is opened over its space, begun, and given the observation of each transfer's first header; then it takes turns
-/// until it ended. None of these takes memory.
+/// until it ends. None of these calls takes memory.
 #[derive(Drop)]
 pub struct Feeder<'a, I> {
     inputs: &'a mut I,
@@ -147,10 +150,11 @@ pub struct Feeder<'a, I> {
 }
 
 impl<'a, I: Inputs> Feeder<'a, I> {
-    ghost use Rattle.disk_feeder.specs.Feeder.{stream_at, HasPlan, SamePlan, IsSpaceFor, IsFresh, IsBegun, ReadsFirstHeaders, BreaksFirstHeaders, HasOpenFile, has_end, FeederFeeds, headers_of, KeepsBegun, AcceptsAt, AllAccepted, names_at, FeederBegins, RefusesAt};
+    ghost use Rattle.disk_feeder.specs.Feeder.{stream_at, HasPlan, SamePlan, IsSpaceFor, IsFresh, IsBegun, ReadsFirstHeaders, BreaksFirstHeaders, HasOpenFile, has_end, FeederFeeds, FeederFaultless, headers_of, KeepsBegun, AcceptsAt, AllAccepted, names_at, FeederBegins, RefusesAt, IsCutTo, block_size};
     ghost use Rattle.disk_feeder.specs.Feeding.{header_entries, HeadersKeepUp};
     ghost use Rattle.disk_feeder.specs.Resting.{stream_in, FeederStands, FeederKept};
     ghost use Rattle.disk_feeder.specs.Handing.{FeederHands, handed_entry, block_of};
+    ghost use Rattle.psr_base.specs.Told.{Told};
     ghost use Rattle.ring_blocks.specs.declared.Entry.{Entry};
 
     /// The feeder of a space, over borrowed inputs. Nothing is read.
@@ -196,6 +200,21 @@ impl<'a, I: Inputs> Feeder<'a, I> {
         self.stream.header_of(transfer)
     }
 
+    /// Makes the blocks of a feeder that has begun shorter, to `block` bytes. Nothing is read, and what was read and
+    /// accepted stays.
+    pub fn cut_blocks(&mut self, block: u32)
+        requires begun { (told : Told) × IsBegun told self.old }
+        requires block { (1 ≤ block) × (block ≤ block_size self.old) }
+        ensures same_reference { self.new.inputs.ghost_name ≡ self.old.inputs.ghost_name }
+        ensures inputs { self.new.inputs.now ≡ self.old.inputs.now }
+        ensures plan { (names : List (List ℕ)) (starts : List ℕ) (size max_bytes : ℕ)
+            → HasPlan self.old names starts size max_bytes
+            → HasPlan self.new names starts block max_bytes }
+        ensures cut { IsCutTo block self.old self.new }
+    {
+        self.stream.cut_blocks(block as usize);
+    }
+
     /// Keeps the observation of a transfer's first header: the headers of its files are judged by it.
     pub fn accept(&mut self, transfer: usize, observation: &Observation)
         requires there { transfer < length (headers_of self.old) }
@@ -217,7 +236,7 @@ impl<'a, I: Inputs> Feeder<'a, I> {
     }
 
     /// Reads until a block is full, the transfer's data end or the stream stops, and seals the block; or seals the
-    /// header of a further transfer. A block that found the ring full is tried again in the next turn.
+    /// header of a further transfer. If the ring is full, the block is tried again in the next turn.
     pub fn turn(&mut self, hdu: &Hdu, pass: &mut HduWriter) -> FeedTurn
         requires ring { WritesBoth hdu.now pass.old }
         requires running { has_end self.old ≡ None }
@@ -237,7 +256,7 @@ impl<'a, I: Inputs> Feeder<'a, I> {
         self.stream.turn(self.inputs, hdu, pass)
     }
 
-    /// Reads until a block is full, the transfer's data end or the stream stops, and hands the block out, which takes no
+    /// Reads until a block is full, the transfer's data end or the stream stops, and hands the block out without a
     /// ring. `block` has its bytes.
     pub fn next(&mut self) -> Handed
         requires running { has_end self.old ≡ None }
@@ -253,18 +272,19 @@ impl<'a, I: Inputs> Feeder<'a, I> {
         ensures within { result.used ≤ length (block_of self.new) }
         ensures kept { FeederKept I.told I.is_calm I.faults self.old self.new }
         ensures end { result.end ≡ has_end self.new }
+        ensures idle { has_end self.new ≡ None → FeederFaultless self.new }
     {
         self.stream.next(self.inputs)
     }
 
-    /// The space of the block that was handed out last, which begins with its bytes.
+    /// The space of the block that was handed out last. It begins with the block's bytes.
     pub fn block(&self) -> &[u8]
         ensures { result.now ≡ block_of self.now }
     {
         self.stream.block()
     }
 
-    /// Gives the inputs and the space back: the feeder rests where it is.
+    /// Gives the inputs and the space back. The feeder can go on from there.
     pub fn part(self) -> Lent<'a, I, FeederSpace<'a>>
         ensures inputs { result.inputs.now ≡ self.entry.inputs.now }
         ensures same_reference { result.inputs.ghost_name ≡ self.entry.inputs.ghost_name }

@@ -12,7 +12,7 @@ use psr_base::{Failed, Inputs, fill};
 // A law: it does nothing when it runs, and the proofs use what it ensures.
 use psr_base::reads_join;
 
-/// The least size of a header, in bytes. As many are read before its size is known.
+/// The smallest size of a header, in bytes. This many are read before its size is known.
 const LEAST: usize = 4096;
 
 /// Why no header was read.
@@ -24,7 +24,7 @@ pub(crate) enum HeaderStop {
     Refused(HeaderFault),
 }
 
-// Reads the next bytes into the space from one place to another, or all that are left, and answers how many they are.
+// Reads the next bytes into the space between two places, or all that are left, and answers how many they are.
 fn fill_part<I: Inputs>(
     inputs: &mut I,
     space: &mut [u8],
@@ -99,7 +99,7 @@ fn open_front<I: Inputs>(inputs: &mut I, name: &str, space: &mut [u8]) -> Result
     }
 }
 
-/// Opens the file of a name and reads its header, over a space of at least 65536 bytes. What is left to read are the
+/// Opens the file of a name and reads its header, through a space of at least 65536 bytes. What is left to read are the
 /// data.
 pub(crate) fn read_header<I: Inputs>(
     inputs: &mut I,

@@ -13,7 +13,7 @@ pub fn feeders_begin<I>()
     walk_goes_on();
 }
 
-/// Once a feeder ended, the data blocks that it sealed are over, and no beginning of them is.
+/// Once a feeder ended, the data blocks that it sealed are a stream with its end, and no beginning of them is.
 pub fn feeders_end<I>()
     ensures { FeedersEnd I }
 {
@@ -30,9 +30,9 @@ pub fn headers_are_first<I>()
     ends_are_counted();
 }
 
-/// Where a fault of the inputs ended a feeder, nothing that was read stops the walk of its files, and the full blocks
-/// that it sealed are those of the data that were read. Where it came to a file that could not be opened after those
-/// before it alone were read, it says so still.
+/// If a fault of the inputs ended a feeder, nothing that was read stops the walk of its files, and the full blocks that
+/// it sealed are those of the data that were read. If it came to a file that could not be opened after only the files
+/// before it were read, it still says so.
 pub fn faults_leave<I>()
     ensures { FaultsLeave I }
 {}

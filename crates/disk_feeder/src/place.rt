@@ -31,7 +31,7 @@ pub(crate) struct First {
 impl First {
     ghost use Rattle.obs_plan.specs.Later.{profile_of};
 
-    /// That of an observation.
+    /// What an observation says of it.
     pub(crate) fn of(observation: &Observation) -> First
         ensures profile { result.profile ≡ profile_of observation.now }
         ensures offset { result.offset ≡ observation.now.obs_offset }
@@ -43,7 +43,7 @@ impl First {
         }
     }
 
-    /// Judges the header of a file after so many data bytes of its transfer.
+    /// Judges the header of file `file`, which comes after `since` data bytes of its transfer.
     pub(crate) fn judge(&self, file: u32, since: u64, header: &Header) -> Result<(), FeedEnd>
         requires { since ≤ 2 ^ 48 }
         ensures judged { let stop = offset_stop file (self.now.offset + since)

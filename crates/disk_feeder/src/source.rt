@@ -30,7 +30,7 @@ fn zeros(alloc: Global) -> Result<Vec<u8>, Memory>
     Ok(vec![in alloc; 0u8; 65536]?)
 }
 
-/// The files of a stream, and where they are read. It reads from inputs that it is given at each call.
+/// The files of a stream, and how far they were read. It reads from inputs that it is given at each call.
 #[derive(Drop)]
 pub(crate) struct Source<'a> {
     names: &'a [String],
@@ -38,11 +38,11 @@ pub(crate) struct Source<'a> {
     max_bytes: u64,
     /// The first header of each transfer.
     headers: Vec<Header>,
-    /// What was accepted of each of them.
+    /// What was accepted of each first header.
     pub(crate) firsts: [Option<First>; 8],
     /// Where the bytes of headers are read to.
     space: Vec<u8>,
-    /// Where the header of a file is read to that is opened for its data.
+    /// Where the header of a file that is opened for its data is read to.
     later: Header,
     place: Place,
     ghost files: { length names.now ≤ 65535 },
@@ -176,7 +176,7 @@ impl<'a> Source<'a> {
         Ok(())
     }
 
-    /// The file that was opened last is read on where it is the only transfer's; else the first file is opened again.
+    /// Begins with the data. If there is one transfer, its open file is read on; else the first file is opened again.
     pub(crate) fn start(&mut self)
         requires { self.old.place ≡ first_place }
         ensures plan { plan_of self.new ≡ plan_of self.old }
@@ -187,7 +187,7 @@ impl<'a> Source<'a> {
         self.place.is_open = self.starts.len() == 1;
     }
 
-    /// Keeps what is accepted of a transfer's first header.
+    /// Keeps the observation of a transfer's first header.
     pub(crate) fn accept(&mut self, transfer: usize, observation: &Observation)
         requires there { transfer < length self.old.starts.now }
         ensures names { self.new.names ≡ self.old.names }
@@ -210,7 +210,7 @@ impl<'a> Source<'a> {
         &self.headers[transfer]
     }
 
-    // The number of the file with which a transfer begins, or of all files.
+    // The number of the file with which a transfer begins, or how many files there are.
     fn begin(&self, transfer: usize) -> usize
         ensures { result ≡ begin_at self.now.starts.now (length self.now.names.now) transfer }
     {
@@ -233,7 +233,7 @@ impl<'a> Source<'a> {
         !self.place.is_open && self.place.file == self.begin(self.place.transfer + 1)
     }
 
-    // Opens the file of the place and reads its header.
+    // Opens the file at the present place and reads its header.
     fn open_file<I: Inputs>(&mut self, inputs: &mut I) -> Result<(), FeedEnd>
         requires there { self.old.place.file < length self.old.names.now }
         ensures stays { StaysAt self.old self.new }
@@ -281,7 +281,7 @@ impl<'a> Source<'a> {
         first
     }
 
-    // Opens the file of the place, and judges its header.
+    // Opens the file at the present place, and judges its header.
     fn open_next<I: Inputs>(&mut self, inputs: &mut I) -> Result<(), FeedEnd>
         requires shut { self.old.place.is_open ≡ false }
         requires more { HasMore self.old }
@@ -320,7 +320,7 @@ impl<'a> Source<'a> {
         }
     }
 
-    // The open file was read to its end.
+    // Closes the open file, which was read to its end.
     fn close_file(&mut self)
         requires { self.old.place.is_open ≡ true }
         ensures plan { plan_of self.new ≡ plan_of self.old }
@@ -345,7 +345,7 @@ impl<'a> Source<'a> {
         };
     }
 
-    // So many bytes were read of the open file, if they are within the limit.
+    // Counts `n` bytes that were read of the open file, if they are within the limit.
     fn count(&mut self, n: usize) -> Result<usize, FeedEnd>
         ensures plan { plan_of self.new ≡ plan_of self.old }
         ensures counted { MatchResult result (λ m. IsCounted self.old.place n m self.new.place)
@@ -415,7 +415,7 @@ impl<'a> Source<'a> {
     }
 
     /// Opens the next file of the transfer, or reads a piece of the open one: answers how many bytes it put at the
-    /// front of `into`, which may be none, or why the stream ends.
+    /// front of `into`, which may be 0, or why the stream ends.
     pub(crate) fn advance<I: Inputs>(
         &mut self,
         inputs: &mut I,
@@ -496,7 +496,7 @@ impl<'a> Source<'a> {
         self.place.total
     }
 
-    /// The header of the transfer.
+    /// The header of the present transfer.
     pub(crate) fn header(&self) -> &Header
         requires { self.now.place.transfer < length self.now.starts.now }
         ensures { slice_get self.now.headers.items self.now.place.transfer ≡ Some result.now }

@@ -44,7 +44,7 @@ fn read_behind<I: Inputs>(
     source.advance(inputs, &mut block[held..])
 }
 
-// So many zeros.
+// A list of `size` zeros.
 fn zeros(alloc: Global, size: usize) -> Result<Vec<u8>, Memory>
     ensures { IfOk result (λ space. length space.items ≡ size) }
 {
@@ -58,7 +58,7 @@ pub(crate) struct Stream<'a> {
     block: Vec<u8>,
     held: usize,
     due: Option<Due>,
-    /// The header of the transfer is to be sealed before its data.
+    /// Whether the header of the transfer is to be sealed before its data.
     header_due: bool,
     end: Option<FeedEnd>,
     ghost some: { 0 < length block.items },
@@ -73,7 +73,7 @@ impl<'a> Stream<'a> {
     ghost use Rattle.psr_base.specs.Told.{Told};
     ghost use Rattle.disk_feeder.specs.Feeding.{KeepsPlan, Feeds, AfterSeal, IsUntold, IsUnopened, GoesOn, IsFeeding, KeepsInputs, StreamStands};
 
-    /// Nothing was read. The space for a block of so many bytes, and for all headers, is taken here.
+    /// Nothing was read. The space for a block of `size` bytes, and for all headers, is taken here.
     pub(crate) fn open(
         alloc: Global,
         names: &'a [String],
@@ -154,7 +154,21 @@ impl<'a> Stream<'a> {
         self.source.accept(transfer, observation);
     }
 
-    // So many bytes came behind those that the block held.
+    /// Makes the block shorter, to `size` bytes, while it holds nothing.
+    pub(crate) fn cut_blocks(&mut self, size: usize)
+        requires size { (1 ≤ size) × (size ≤ length self.old.block.items) }
+        requires held { self.old.held ≡ 0 }
+        ensures size { length self.new.block.items ≡ size }
+        ensures source { self.new.source ≡ self.old.source }
+        ensures held { self.new.held ≡ self.old.held }
+        ensures due { self.new.due ≡ self.old.due }
+        ensures header_due { self.new.header_due ≡ self.old.header_due }
+        ensures end { self.new.end ≡ self.old.end }
+    {
+        self.block.truncate(size);
+    }
+
+    // Counts `n` bytes behind those that the block held.
     fn hold(&mut self, n: usize)
         requires { self.old.held + n ≤ length self.old.block.items }
         ensures source { self.new.source ≡ self.old.source }
@@ -203,7 +217,7 @@ impl<'a> Stream<'a> {
         }
     }
 
-    // Fills the block until it is to be sealed, and says why.
+    // Fills the block until it is to be sealed, and answers why it is.
     fn fill<I: Inputs>(&mut self, inputs: &mut I) -> Due
         requires running { self.old.end ≡ None }
         requires within { IsWithin self.old.source }
@@ -225,7 +239,7 @@ impl<'a> Stream<'a> {
         }
     }
 
-    // Nothing is held.
+    // Empties the block.
     fn empty(&mut self)
         ensures source { self.new.source ≡ self.old.source }
         ensures block { self.new.block ≡ self.old.block }
@@ -284,7 +298,7 @@ impl<'a> Stream<'a> {
         }
     }
 
-    // All data of a transfer were sealed: the header of the next is to be, or all are.
+    // After all data of a transfer were sealed: the header of the next one is due, or the stream ends.
     fn after_transfer(&mut self) -> FeedTurn
         requires { self.old.end ≡ None }
         ensures source { self.new.source ≡ self.old.source }
@@ -327,7 +341,7 @@ impl<'a> Stream<'a> {
         }
     }
 
-    // The header of the transfer was sealed: its data are read next.
+    // After the header of the transfer was sealed: its data are read next.
     fn begin_transfer(&mut self)
         ensures source { self.new.source ≡ self.old.source }
         ensures block { self.new.block ≡ self.old.block }
@@ -382,7 +396,7 @@ impl<'a> Stream<'a> {
         }
     }
 
-    /// Fills a block and seals it, or a header where one is due.
+    /// Fills a block and seals it, or seals a header if one is due.
     pub(crate) fn turn<I: Inputs>(
         &mut self,
         inputs: &mut I,

@@ -8,15 +8,15 @@ ghost use Rattle.disk_feeder.specs.Turns.{CanSeal, HasHeaderRoom, FindsFull, sea
 use dada_hdu::{Hdu, HduWriter, Mark, WriteStop};
 use dada_header::Header;
 
-/// The reader that a full ring waits for, and how many of its blocks this reader had cleared.
+/// The reader that a full ring waits for, and how many of its blocks that reader had cleared.
 #[derive(Clone, Copy)]
 pub(crate) struct LateReader {
     pub(crate) reader: u32,
     pub(crate) cleared: u64,
 }
 
-/// Seals the first `used` bytes of the space as a block of data, or says which reader had cleared too few blocks, and
-/// how many. The space and that of the block change places.
+/// Seals the first `used` bytes of `space` as a block of data, or answers which reader had cleared too few blocks, and
+/// how many. `space` and the block's space change places.
 pub(crate) fn write_block(
     hdu: &Hdu,
     pass: &mut HduWriter,
@@ -43,7 +43,7 @@ pub(crate) fn write_block(
     }
 }
 
-/// Seals a header, or says which reader had cleared too few headers, and how many.
+/// Seals a header, or answers which reader had cleared too few headers, and how many.
 pub(crate) fn write_header(
     hdu: &Hdu,
     pass: &mut HduWriter,

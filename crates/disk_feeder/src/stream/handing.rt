@@ -16,7 +16,7 @@ impl<'a> Stream<'a> {
     ghost use Rattle.disk_feeder.specs.Feeding.{KeepsPlan, AfterSeal, KeepsInputs};
     ghost use Rattle.disk_feeder.specs.Handing.{Hands, IsHanding, handed_entry};
 
-    // The header of a further transfer goes by.
+    // Passes over the header of another transfer.
     fn pass_header(&mut self)
         requires running { self.old.end ≡ None }
         ensures source { self.new.source ≡ self.old.source }
@@ -41,6 +41,7 @@ impl<'a> Stream<'a> {
         ensures after { AfterSeal self.old self.new }
         ensures within { result.used ≤ length self.new.block.items }
         ensures end { result.end ≡ self.new.end }
+        ensures idle { self.new.end ≡ None → self.new.due ≡ None }
         ensures hands { Hands self.old self.new result }
         ensures reads_on { (before told : Told) → StreamRead before told self.old
             → StreamRead before told self.new }
@@ -62,6 +63,7 @@ impl<'a> Stream<'a> {
         ensures after { AfterSeal self.old self.new }
         ensures within { result.used ≤ length self.new.block.items }
         ensures end { result.end ≡ self.new.end }
+        ensures idle { self.new.end ≡ None → self.new.due ≡ None }
         ensures hands { Hands self.old self.new result }
         ensures reads_on { (before told : Told) → StreamRead before told self.old
             → StreamRead before told self.new }
@@ -87,6 +89,7 @@ impl<'a> Stream<'a> {
         ensures after { AfterSeal self.old self.new }
         ensures within { result.used ≤ length self.new.block.items }
         ensures end { result.end ≡ self.new.end }
+        ensures idle { self.new.end ≡ None → self.new.due ≡ None }
         ensures hands { Hands self.old self.new result }
         ensures reads_on { (before told : Told) → StreamRead before told self.old
             → StreamRead before told self.new }
@@ -107,6 +110,7 @@ impl<'a> Stream<'a> {
         ensures after { AfterSeal self.old self.new }
         ensures within { result.used ≤ length self.new.block.items }
         ensures end { result.end ≡ self.new.end }
+        ensures idle { self.new.end ≡ None → self.new.due ≡ None }
         ensures hands { Hands self.old self.new result }
         ensures reads_on { (before told : Told) → StreamRead before told self.old
             → StreamRead before told self.new }
@@ -118,7 +122,7 @@ impl<'a> Stream<'a> {
         }
     }
 
-    /// Fills a block and hands it out; the header of a further transfer goes by.
+    /// Fills a block and hands it out. The headers of further transfers are passed over.
     pub(crate) fn next<I: Inputs>(&mut self, inputs: &mut I) -> Handed
         requires running { self.old.end ≡ None }
         requires is_open { self.old.source.place.is_open ≡ true → I.is_open inputs.old }
@@ -127,6 +131,7 @@ impl<'a> Stream<'a> {
         ensures is_open { self.new.source.place.is_open ≡ true → I.is_open inputs.new }
         ensures within { result.used ≤ length self.new.block.items }
         ensures end { result.end ≡ self.new.end }
+        ensures idle { self.new.end ≡ None → self.new.due ≡ None }
         ensures hands { (blocks : List Entry) → IsHanding self.old (I.told inputs.old) blocks
             → IsHanding self.new (I.told inputs.new)
             (blocks ++ handed_entry result self.new.block.items ∷ []) }
