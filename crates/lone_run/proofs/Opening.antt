@@ -1,10 +1,11 @@
 -- How a lone run is opened, or stops before its session.
 use Rattle.std.proofs.Common.{◌≡◌, ◌≢◌, ℕ, ◌*◌, ◌<◌, ◌≤◌, false, None, List, [], ◌∷◌, Option, Some, Result, Ok, Err, length, map, inl, inr, refl, sym, ap, ◌∙◌, subst, arith}
-use Rattle.std.specs.Prelude.{slice_get}
+use Rattle.std.specs.Prelude.{IfErr, slice_get}
 use Rattle.std.proofs.lemmas.Bool.{true≢false}
 use Rattle.std.proofs.lemmas.List.{length-map}
 use Rattle.std.proofs.lemmas.Option.{slice_get_within}
 use Rattle.psr_base.specs.Told.{Told}
+use Rattle.dada_model.specs.Bounds.{ObservationInRange}
 use Rattle.dada_model.specs.Fields.{HeaderText}
 use Rattle.dada_model.specs.Observation.{Observation}
 use Rattle.search_model.specs.declared.search.Search.{Search}
@@ -31,13 +32,13 @@ use Rattle.run_stop.specs.Runs.{Alone, OfEachFirst, MayBegin, CanSearchFirst, Is
 use Rattle.run_stop.specs.Ends.{ComesBefore}
 use Rattle.search_opening.specs.Begun.{HasFirsts}
 use Rattle.search_opening.specs.Early as early
-use Rattle.search_opening.specs.Early.{SaysEarly, LeavesEarly, EarlyStopsStand}
+use Rattle.search_opening.specs.Early.{SaysEarly, EarlyStopsStand}
 use Rattle.search_opening.specs.Ended.{FirstsStayTold}
 use Rattle.search_opening.specs.Settings.{OfRunFirsts}
 use Rattle.lone_run.specs.declared.stop.LoneStop.{LoneStop}
 use Rattle.lone_run.specs.declared.stop.LoneStop.TheVariants.{Run, Unscoped}
-use Rattle.lone_run.specs.Scopes.{IsScoped, IsBankOf}
-use Rattle.lone_run.specs.Stops.{SaysAlone, StopsEarly, StopsBank}
+use Rattle.lone_run.specs.Scopes.{IsBankOf, SaysObservation}
+use Rattle.lone_run.specs.Stops.{LeavesAlone, OfHeader, SaysAlone, StopsEarly, StopsBank}
 use Rattle.lone_run.specs.Openings.{IsFeederReady, IsOpenedAlone, shape_for}
 use Rattle.lone_run.proofs.Told.{file_before_reading}
 
@@ -89,6 +90,14 @@ module _ (s : SettingsSeen) (told : Told) (headers : List HeaderText) (o : Obser
         observation = first.observation;
         is_header = first.is_header;
         is_observation = first.is_observation;
+      }
+
+  each_says : OfEachFirst told s (SaysObservation o)
+  each_says k below file is =
+      let first = each k below file is in
+      record {
+        accepted = each_accepted k below file is;
+        is = sym (one_place o first.observation k (omega (arith, below, one)) first.said ∙ first.is);
       }
 
   -- what holds of it holds of the file
@@ -153,9 +162,9 @@ plan_says lone s told headers o stop one each firsts stops =
 no_plan : IsOfPlan Memory → ⊥
 no_plan is = let not : Memory ≡ Plan is.0 = is.1 in absurd cc
 
-pub memory_stops : {F : Type 0} (scopes : Observation → Search → Scope → Type 0) (refuses : Observation → F → Type 0)
-    (s : SettingsSeen) (told : Told) → StopsEarly scopes refuses s told (Run Memory)
-memory_stops scopes refuses s told = record {
+pub memory_stops : {F : Type 0} (accepts : Observation → Type 0) (refuses : Observation → F → Type 0)
+    (s : SettingsSeen) (told : Told) → StopsEarly accepts refuses s told (Run Memory)
+memory_stops accepts refuses s told = record {
   kind = tt;
   says = λ lone. (tt, λ plan. absurd (no_plan plan));
 }
@@ -174,100 +183,120 @@ each_first : {I : Type 0} (told : I → Told) (is_open : I → Type 0) (s : Sett
 each_first told is_open s f observations o begun one =
     subst (λ os. AreFirstsAt (told f.inputs.now) s.names s.starts (headers_of f) os) one begun.each
 
-pub bank_stops : {I F : Type 0} (told : I → Told) (is_open : I → Type 0)
-    (scopes : Observation → Search → Scope → Type 0) (refuses : Observation → F → Type 0) (s : SettingsSeen)
-    (f : Feeder I) (observations : List (Option Observation)) (o : Observation) (stop : LoneStop F) →
-    length s.starts ≡ 1 → HasFirsts told is_open (with_search tt s) f observations → observations ≡ Some o ∷ [] →
-    StopsBank scopes refuses s.search o stop → StopsEarly scopes refuses s (told f.inputs.now) stop
-bank_stops told is_open scopes refuses s f observations o (Run stop) single begun one (inl want) =
-    subst (λ (x : Stop). StopsEarly scopes refuses s (told f.inputs.now) (Run x)) (sym want)
-    (memory_stops scopes refuses s (told f.inputs.now))
-bank_stops told is_open scopes refuses s f observations o (Run stop) single begun one (inr (plan, scoped, stops)) =
+-- what holds of it holds of the observation of the first header
+header_of_first : {I : Type 0} (told : I → Told) (is_open : I → Type 0) (s : SettingsSeen) (f : Feeder I)
+    (observations : List (Option Observation)) (o : Observation) (P : Observation → Type 0) → length s.starts ≡ 1 →
+    HasFirsts told is_open (with_search tt s) f observations → observations ≡ Some o ∷ [] → ObservationInRange o → P o →
+    OfHeader s (told f.inputs.now) P
+header_of_first told is_open s f observations o P single begun one range holds =
     let firsts = only_firsts told is_open s f observations o begun one in
+    record {
+      observation = o;
+      range = range;
+      holds = holds;
+      first = (
+        each_says s (told f.inputs.now) (headers_of f) o single
+            (each_first told is_open s f observations o begun one),
+        λ files are. record {
+          walked = (firsts files are).walked;
+          is = sym (first_is (stream_for s files) o (firsts files are));
+        },
+      );
+    }
+
+pub bank_stops : {I F : Type 0} (told : I → Told) (is_open : I → Type 0) (accepts : Observation → Type 0)
+    (refuses : Observation → F → Type 0) (s : SettingsSeen) (f : Feeder I) (observations : List (Option Observation))
+    (o : Observation) (stop : LoneStop F) → length s.starts ≡ 1 →
+    HasFirsts told is_open (with_search tt s) f observations → observations ≡ Some o ∷ [] → ObservationInRange o →
+    StopsBank accepts refuses s.search o stop → StopsEarly accepts refuses s (told f.inputs.now) stop
+bank_stops told is_open accepts refuses s f observations o (Run stop) single begun one range (inl want) =
+    subst (λ (x : Stop). StopsEarly accepts refuses s (told f.inputs.now) (Run x)) (sym want)
+    (memory_stops accepts refuses s (told f.inputs.now))
+bank_stops told is_open accepts refuses s f observations o (Run stop) single begun one range
+    (inr (plan, accepted, stops)) =
     record {
       kind = plan_comes stop plan;
       says = λ lone. (
         plan_says lone s (told f.inputs.now) (headers_of f) o stop single
-            (each_first told is_open s f observations o begun one) firsts stops,
-        λ again files are. subst (IsScoped scopes s.search) (first_is (stream_for s files) o (firsts files are)) scoped,
+            (each_first told is_open s f observations o begun one)
+            (only_firsts told is_open s f observations o begun one) stops,
+        λ again. header_of_first told is_open s f observations o accepts single begun one range accepted,
       );
     }
-bank_stops told is_open scopes refuses s f observations o (Unscoped refusal) single begun one refused =
-    let firsts = only_firsts told is_open s f observations o begun one in
-    let each = each_first told is_open s f observations o begun one in
-    let now = told f.inputs.now in
+bank_stops told is_open accepts refuses s f observations o (Unscoped refusal) single begun one range refused =
     record {
       kind = tt;
-      says = λ lone. (
-        record {
-          accepted = each_accepted s now (headers_of f) o single each;
-          refused = each_of_one s now (headers_of f) o single each (λ p. refuses p refusal) refused 0
-              (omega (arith, single));
-        },
-        λ files are. (
-          (firsts files are).walked,
-          subst (λ x. refuses x refusal) (first_is (stream_for s files) o (firsts files are)) refused,
-        ),
-      );
+      says = λ lone. header_of_first told is_open s f observations o (λ p. refuses p refusal) single begun one range
+          refused;
     }
 
-pub bank_readable : {F : Type 0} (scopes : Observation → Search → Scope → Type 0) (refuses : Observation → F → Type 0)
-    (s : Search) (o : Observation) (stop : LoneStop F) → StopsBank scopes refuses s o stop → stop ≢ Run ReadFault
-bank_readable scopes refuses s o (Run stop) (inl want) is = cc
-bank_readable scopes refuses s o (Run stop) (inr (plan, scoped, stops)) is = let cause = plan.1 in cc
-bank_readable scopes refuses s o (Unscoped refusal) refused is = cc
+pub bank_readable : {F : Type 0} (accepts : Observation → Type 0) (refuses : Observation → F → Type 0)
+    (s : Search) (o : Observation) (stop : LoneStop F) → StopsBank accepts refuses s o stop → stop ≢ Run ReadFault
+bank_readable accepts refuses s o (Run stop) (inl want) is = cc
+bank_readable accepts refuses s o (Run stop) (inr (plan, accepted, stops)) is = let cause = plan.1 in cc
+bank_readable accepts refuses s o (Unscoped refusal) refused is = cc
 
 -- a first header is refused, or could not be read: so it is whatever a run is for, and of no plan then
-pub begin_stops : {F : Type 0} (scopes : Observation → Search → Scope → Type 0) (refuses : Observation → F → Type 0)
+pub begin_stops : {F : Type 0} (accepts : Observation → Type 0) (refuses : Observation → F → Type 0)
     (s : SettingsSeen) (told : Told) (stop : Stop) → ComesFirst stop →
     ComesBefore stop → ((lone : LoneSearch) → early.StopsEarly (Alone lone) s told stop) →
-    StopsEarly scopes refuses s told (Run stop)
-begin_stops scopes refuses s told stop first kind stops = record {
+    StopsEarly accepts refuses s told (Run stop)
+begin_stops accepts refuses s told stop first kind stops = record {
   kind = kind;
   says = λ lone. ((stops lone).says, λ is. absurd (subst ComesFirst is.1 first));
 }
 
 -- what a stop says of the files stands as long as what is told under the names does
-alone_before_reading : {F : Type 0} → EarlyStopsStand → FirstsStayTold →
-    (scopes : Observation → Search → Scope → Type 0) (refuses : Observation → F → Type 0) (lone : LoneSearch)
-    (s : SettingsSeen) (old new : Told) (stop : LoneStop F) → new.bytes_under ≡ old.bytes_under →
-    SaysAlone scopes refuses lone s new stop → SaysAlone scopes refuses lone s old stop
-alone_before_reading stand stay scopes refuses lone s old new (Run stop) same says = (
-  stand (Alone lone) s old new stop same says.0,
-  λ plan files are. says.1 plan files (stay s.names s.starts old new files same are),
-)
-alone_before_reading stand stay scopes refuses lone s old new (Unscoped refusal) same says = (
-  record {
-    accepted = λ k below. file_before_reading old new (first_name s.names s.starts k) IsAccepted same
-        (says.0.accepted k below);
-    refused = file_before_reading old new (first_name s.names s.starts 0)
-        (λ file. refuses (observation_at file) refusal) same says.0.refused;
-  },
-  λ files are. says.1 files (stay s.names s.starts old new files same are),
-)
+header_before_reading : FirstsStayTold → (s : SettingsSeen) (old new : Told) (P : Observation → Type 0) →
+    new.bytes_under ≡ old.bytes_under → OfHeader s new P → OfHeader s old P
+header_before_reading stay s old new P same of = record {
+  observation = of.observation;
+  range = of.range;
+  holds = of.holds;
+  first = (
+    λ k below. file_before_reading old new (first_name s.names s.starts k) (SaysObservation of.observation) same
+        (of.first.0 k below),
+    λ files are. of.first.1 files (stay s.names s.starts old new files same are),
+  );
+}
 
-pub stops_before_reading : {F : Type 0} → EarlyStopsStand → FirstsStayTold →
-    (scopes : Observation → Search → Scope → Type 0) (refuses : Observation → F → Type 0) (s : SettingsSeen)
-    (old new : Told) (stop : LoneStop F) → new.bytes_under ≡ old.bytes_under →
-    StopsEarly scopes refuses s new stop → StopsEarly scopes refuses s old stop
-stops_before_reading stand stay scopes refuses s old new stop same stops = record {
+alone_before_reading : {F : Type 0} → EarlyStopsStand → FirstsStayTold → (accepts : Observation → Type 0)
+    (refuses : Observation → F → Type 0) (lone : LoneSearch) (s : SettingsSeen) (old new : Told) (stop : LoneStop F) →
+    new.bytes_under ≡ old.bytes_under → SaysAlone accepts refuses lone s new stop →
+    SaysAlone accepts refuses lone s old stop
+alone_before_reading stand stay accepts refuses lone s old new (Run stop) same says = (
+  stand (Alone lone) s old new stop same says.0,
+  λ plan. header_before_reading stay s old new accepts same (says.1 plan),
+)
+alone_before_reading stand stay accepts refuses lone s old new (Unscoped refusal) same says =
+    header_before_reading stay s old new (λ p. refuses p refusal) same says
+
+pub stops_before_reading : {F : Type 0} → EarlyStopsStand → FirstsStayTold → (accepts : Observation → Type 0)
+    (refuses : Observation → F → Type 0) (s : SettingsSeen) (old new : Told) (stop : LoneStop F) →
+    new.bytes_under ≡ old.bytes_under → StopsEarly accepts refuses s new stop → StopsEarly accepts refuses s old stop
+stops_before_reading stand stay accepts refuses s old new stop same stops = record {
   kind = stops.kind;
-  says = λ lone. alone_before_reading stand stay scopes refuses lone s old new stop same (stops.says lone);
+  says = λ lone. alone_before_reading stand stay accepts refuses lone s old new stop same (stops.says lone);
 }
 
 -- ---- what was read
 
 -- once the first headers were read, it stops for want of memory, or for what was judged of them
 pub leaves_opening : {I T F : Type 0} (told : I → Told) (is_calm : Type 0) (s : SettingsSeen) (old mid new : I)
-    (r : Result T (LoneStop F)) (stop : Stop) →
-    OfRunFirsts (told old) s (λ w. ReadsFirsts s.names w (told old) (told mid)) → new ≡ mid →
-    r ≢ Err (Run ReadFault) → r ≡ Err (Run stop) → LeavesEarly (with_search tt s) is_calm (told old) (told new) stop
-leaves_opening told is_calm s old mid new r stop only same readable is =
+    (r : Result T (LoneStop F)) → OfRunFirsts (told old) s (λ w. ReadsFirsts s.names w (told old) (told mid)) →
+    new ≡ mid → r ≢ Err (Run ReadFault) →
+    IfErr r (LeavesAlone (with_search tt s) is_calm (told old) (told new))
+leaves_opening told is_calm s old mid new (Ok opened) only same readable = tt
+leaves_opening {I} {T} {F} told is_calm s old mid new (Err (Run stop)) only same readable =
     let Reads : _ → Type 0 = λ i. OfRunFirsts (told old) s (λ w. ReadsFirsts s.names w (told old) (told i)) in
+    let stopped : Stop → Result T (LoneStop F) = λ x. Err (Run x) in
     record {
       unread = λ want. subst Reads (sym same) only;
-      broke = λ failed. absurd (readable (is ∙ ap (λ (x : Stop). Err (Run x)) failed));
+      broke = λ failed. absurd (readable (ap stopped failed));
     }
+leaves_opening told is_calm s old mid new (Err (Unscoped refusal)) only same readable =
+    let Reads : _ → Type 0 = λ i. OfRunFirsts (told old) s (λ w. ReadsFirsts s.names w (told old) (told i)) in
+    subst Reads (sym same) only
 
 -- ---- what is opened
 
@@ -319,6 +348,9 @@ is_opened told is_open s old new observations o scope bank header space is begun
       begins = λ lone. subst (λ i. MayBegin (Alone lone) s (told i)) (sym is.inputs)
           (begins_at s (told old.inputs.now) (headers_of old) o one.transfer
           (each_first told is_open s old observations o begun only) one.unrecorded plan lone);
+      says = subst (λ i. OfEachFirst (told i) s (SaysObservation o)) (sym is.inputs)
+          (each_says s (told old.inputs.now) (headers_of old) o one.transfer
+          (each_first told is_open s old observations o begun only));
       firsts = subst (λ i. OfRunFirsts (told i) s (λ w. AreFirsts w (Some o ∷ []))) (sym is.inputs)
           (only_firsts told is_open s old observations o begun only);
       fits = fits;

@@ -4,7 +4,8 @@ use Rattle.std.specs.Prelude.{slice_get}
 use Rattle.std.specs.List.{sum_by, range_with_len}
 use Rattle.std.proofs.lemmas.Bool.{true≢false}
 use Rattle.psr_base.specs.Inputs.{HasReadFrom}
-use Rattle.psr_base.specs.Told.{Told}
+use Rattle.psr_base.specs.Told.{Told, OfFile}
+use Rattle.dada_model.specs.Bounds.{ObservationInRange}
 use Rattle.dada_model.specs.Observation.{Observation}
 use Rattle.search_words.specs.Settings.{SettingsSeen}
 use Rattle.ring_ends.specs.Ended.{sealed_at_end, cleared_at_end}
@@ -29,14 +30,16 @@ use Rattle.search_session.specs.Lone.{IsLoneSpace, IsLoneReady, bank_in}
 use Rattle.search_session.specs.LoneEnds.{BankAnswers, session_end}
 use Rattle.search_opening.specs.First.{AreFirsts}
 use Rattle.run_stop.specs.Outcomes.{AllCleared}
+use Rattle.run_stop.specs.Firsts.{first_name}
 use Rattle.run_stop.specs.Lone.{LoneSearch}
 use Rattle.run_stop.specs.Runs.{Searching, Alone, first_observation, stream_for}
 use Rattle.search_opening.specs.Ended.{FirstsStayTold, HasReadSince, HasFed}
 use Rattle.search_opening.specs.Settings.{BeginsRun}
 use Rattle.lone_run.specs.declared.found.LoneFound.{LoneFound}
-use Rattle.lone_run.specs.Scopes.{IsBankOf}
+use Rattle.lone_run.specs.Scopes.{IsBankOf, SaysObservation}
 use Rattle.lone_run.specs.Openings.{IsOpenedAlone, shape_for}
 use Rattle.lone_run.specs.Found.{GoesAlone}
+use Rattle.lone_run.proofs.Told.{file_before_reading}
 
 -- ---- a feeder that is taken apart
 
@@ -71,6 +74,7 @@ rested told is_open s f o scope space opened = record {
   space_is = opened.space_is;
   total = opened.total;
   begins = opened.begins;
+  says = opened.says;
   firsts = opened.firsts;
   fits = opened.fits;
 }
@@ -172,9 +176,9 @@ pub goes_alone : {I : Type 0} → FirstsStayTold → (told : I → Told) (is_ope
     HasFed told is_calm Searching s before (feeder_over lent feeder) after end.blocks end.feed →
     found.feed ≡ end.feed → found.observation ≡ o → found.blocks ≡ end.blocks →
     ((e : EngineState) → HasEngine (engines_of end.bank) 0 e → found.engine ≡ e) →
-    GoesAlone s (told before) o scope found
+    ObservationInRange found.observation → GoesAlone s (told before) o scope found
 goes_alone stay told is_open is_calm faults s before lent after feeder o scope space start end found opened same fed
-    bank read has feed observed blocks engine =
+    bank read has feed observed blocks engine range =
     let f = feeder_over lent feeder in
     let is = opened.bank_is in
     let engines = ap (λ (l : Bank). engines_of l) (same ∙ opened.space_is.bank_is) ∙ is.alone in
@@ -184,6 +188,11 @@ goes_alone stay told is_open is_calm faults s before lent after feeder o scope s
     let Blocks : _ → Type 0 = λ b. AllCleared b 0 1 in
     record {
       observed = observed;
+      range = range;
+      says = λ k below. file_before_reading (told before) (told lent) (first_name s.names s.starts k)
+          (SaysObservation found.observation) read.names
+          (subst (λ x. OfFile (told lent) (first_name s.names s.starts k) (SaysObservation x)) (sym observed)
+          (opened.says k below));
       first = λ files are. first_is (stream_for s files) o 0
           (opened.firsts files (stay s.names s.starts (told before) (told lent) files read.names are)) opened.one.transfer
           ∙ sym observed;

@@ -2,6 +2,7 @@
 -- Source: this project's choice.
 use Rattle.std.specs.Prelude.{◌≡◌, ℕ, ◌^◌, ◌≤◌, true, List, length}
 use Rattle.psr_base.specs.Told.{Told}
+use Rattle.dada_model.specs.Bounds.{ObservationInRange}
 use Rattle.dada_model.specs.Observation.{Observation}
 use Rattle.search_model.specs.declared.search.Search.{Search}
 use Rattle.search_model.specs.Search.{in_one_shard}
@@ -11,9 +12,10 @@ use Rattle.disk_feeder.specs.declared.answers.FeedEnd.TheVariants.{Whole}
 use Rattle.search_engine.specs.Scope.{Scope}
 use Rattle.search_engine.specs.Engine.{HasFoundIn, scope_of}
 use Rattle.run_stop.specs.Outcomes.{AllCleared}
-use Rattle.run_stop.specs.Runs.{first_observation}
+use Rattle.run_stop.specs.Runs.{OfEachFirst, first_observation}
 use Rattle.search_opening.specs.Settings.{OfRun, OfRunFirsts}
 use Rattle.lone_run.specs.declared.found.LoneFound.{LoneFound}
+use Rattle.lone_run.specs.Scopes.{SaysObservation}
 
 -- The engine has searched a scope of all data, which are those of the transfer's files where these are told.
 pub record HasFoundAll (s : SettingsSeen) (told : Told) (scope : Scope) (found : LoneFound) :
@@ -32,6 +34,8 @@ pub record HasFoundAll (s : SettingsSeen) (told : Told) (scope : Scope) (found :
 pub record GoesAlone (s : SettingsSeen) (told : Told) (o : Observation) (scope : Scope)
     (found : LoneFound) : Type 0 where
   pub observed : found.observation ≡ o
+  pub range : ObservationInRange found.observation
+  pub says : OfEachFirst told s (SaysObservation found.observation)
   pub first : OfRunFirsts told s (λ w. first_observation w 0 ≡ found.observation)
   pub cleared : AllCleared found.blocks 0 1
   pub held : (bytes : ℕ) → found.feed ≡ Whole bytes → HasFoundAll s told scope found
@@ -42,6 +46,8 @@ pub record IsFoundAlone (scopes : Observation → Search → Scope → Type 0) (
     (told : Told) (found : LoneFound) : Type 0 where
   pub scope : Scope
   pub scoped : scopes found.observation s.search scope
+  pub range : ObservationInRange found.observation
+  pub says : OfEachFirst told s (SaysObservation found.observation)
   pub first : OfRunFirsts told s (λ w. first_observation w 0 ≡ found.observation)
   pub cleared : AllCleared found.blocks 0 1
   pub held : (bytes : ℕ) → found.feed ≡ Whole bytes → HasFoundAll s told scope found

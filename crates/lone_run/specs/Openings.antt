@@ -19,9 +19,9 @@ use Rattle.search_session.specs.Lone.{IsLoneSpace}
 use Rattle.search_opening.specs.First.{AreFirsts}
 use Rattle.search_opening.specs.Rings.{run_shape}
 use Rattle.run_stop.specs.Lone.{LoneSearch, IsOfOne}
-use Rattle.run_stop.specs.Runs.{Alone, MayBegin, CanSearchFirst}
+use Rattle.run_stop.specs.Runs.{Alone, OfEachFirst, MayBegin, CanSearchFirst}
 use Rattle.search_opening.specs.Settings.{OfRunFirsts}
-use Rattle.lone_run.specs.Scopes.{IsBankOf}
+use Rattle.lone_run.specs.Scopes.{IsBankOf, SaysObservation}
 
 -- the data ring of a lone run
 abbrev pub shape_for : {S : Type 0} → SettingsOf S → RingShape
@@ -56,6 +56,7 @@ pub record IsOpenedAlone {I : Type 0} (told : I → Told) (is_open : I → Type 
   pub space_is : IsLoneSpace bank (shape_for s) header space
   pub total : (shape_for s).max_blocks * s.size ≤ most_fed
   pub begins : (lone : LoneSearch) → MayBegin (Alone lone) s (told f.inputs.now)
+  pub says : OfEachFirst (told f.inputs.now) s (SaysObservation o)
   pub firsts : OfRunFirsts (told f.inputs.now) s (λ w. AreFirsts w (Some o ∷ []))
   pub fits : (w : FileStream) → AreFirsts w (Some o ∷ []) →
       CanSearchFirst s.search w (length w.starts)

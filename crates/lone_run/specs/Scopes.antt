@@ -1,9 +1,11 @@
--- What a program that searches alone makes of an observation: its scope, and the engine that searches it.
+-- The observation of a program that searches alone, and what it makes of it: its scope, and the engine that searches it.
 -- Source: this project's choice.
-use Rattle.std.specs.Prelude.{◌≡◌, ⊤, [], ◌∷◌, Some}
+use Rattle.std.specs.Prelude.{◌≡◌, ℕ, ⊤, List, [], ◌∷◌, Some}
 use Rattle.dada_model.specs.Observation.{Observation}
 use Rattle.search_model.specs.declared.search.Search.{Search}
 use Rattle.search_model.specs.Search.{in_one_shard}
+use Rattle.stream_model.specs.Walk.{observation_at}
+use Rattle.stream_model.specs.WalkLaws.{IsAccepted}
 use Rattle.search_engine.specs.Scope.{Scope}
 use Rattle.search_engine.specs.Engine.{EngineState, IsOpenedEngine, StandsForPart, scope_of}
 use Rattle.session_readers.specs.declared.bank.Bank.{Bank}
@@ -11,9 +13,10 @@ use Rattle.session_readers.specs.Banks.{engines_of}
 use Rattle.lone_run.specs.declared.scoping.ScopeFault.{ScopeFault}
 use Rattle.lone_run.specs.declared.scoping.ScopeFault.TheVariants.{Refused, Memory}
 
--- the program finds something to search in an observation: `scopes` tells what this may be
-abbrev pub IsScoped : (Observation → Search → Scope → Type 0) → Search → Observation → Type 0
-IsScoped scopes s o = (scope : Scope) × scopes o s scope
+-- the header of a file is accepted, and this is its observation
+pub record SaysObservation (o : Observation) (file : List ℕ) : Type 0 where
+  pub accepted : IsAccepted file
+  pub is : observation_at file ≡ o
 
 -- what a fault says of an observation: it is the program's own refusal, or want of memory
 abbrev pub ExplainsScope : {F : Type 0} → (Observation → F → Type 0) → Observation → ScopeFault F →

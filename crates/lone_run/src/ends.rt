@@ -13,7 +13,7 @@ use run_stop::{
     words_say_once,
 };
 
-/// What the exit status says where the words say no settings of the program's searches.
+/// What the exit status says if the arguments give no settings of the program's searches.
 pub fn alone_at_words<I: Inputs>()
     ensures plain { (inputs : I) → AloneAtWords (I.is_calm inputs) }
     ensures with_more { (inputs : I) (told : Told) (more : List (List ℕ))
@@ -22,7 +22,8 @@ pub fn alone_at_words<I: Inputs>()
     end_at_words::<I>();
 }
 
-/// What it says where a program stops between its words and its session, as any run: no block was sealed.
+/// What the exit status says if a program stops between its arguments and its session, as any run can: no block was
+/// sealed.
 pub fn alone_before_session<I: Inputs>()
     ensures plain { (inputs : I) → AloneBeforeSession (I.is_calm inputs) }
     ensures with_more { (inputs : I) (told : Told) (more : List (List ℕ))
@@ -33,7 +34,7 @@ pub fn alone_before_session<I: Inputs>()
     end_before_session::<I>();
 }
 
-/// What it says where a program comes there to a stop of its own.
+/// What the exit status says if a program comes to a stop of its own between its arguments and its session.
 pub fn alone_at_own_stop<I: Inputs>()
     ensures plain { (inputs : I) → AloneAtOwnStop (I.is_calm inputs) }
     ensures with_more { (inputs : I) (told : Told) (more : List (List ℕ))
@@ -42,7 +43,7 @@ pub fn alone_at_own_stop<I: Inputs>()
     words_say_once();
 }
 
-/// What it says where the feeder of the session was stopped.
+/// What the exit status says if the feeder of the session was stopped.
 pub fn alone_at_feed_stop<I: Inputs>()
     ensures plain { (inputs : I) → AloneAtFeedStop (I.is_calm inputs) }
     ensures with_more { (inputs : I) (told : Told) (more : List (List ℕ))
@@ -52,7 +53,7 @@ pub fn alone_at_feed_stop<I: Inputs>()
     end_at_stop::<I>();
 }
 
-/// What it says of words, inputs, files and data ring, once all data were sealed.
+/// What the exit status says of arguments, inputs, files and data ring, once all data were sealed.
 pub fn alone_after_whole<I: Inputs>()
     ensures plain { (inputs : I) → AloneAfterWhole (I.is_calm inputs) }
     ensures with_more { (inputs : I) (told : Told) (more : List (List ℕ))

@@ -7,7 +7,7 @@ pub(crate) struct Lent<'a, I, D> {
     pub(crate) done: D,
 }
 
-/// Gives them back.
+/// Gives the inputs back.
 pub(crate) fn give_back<'a, I, D>(lent: Lent<'a, I, D>) -> D
     ensures inputs { lent.exit.0.now ≡ lent.entry.inputs.now }
     ensures done { result ≡ lent.entry.done }

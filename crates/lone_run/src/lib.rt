@@ -1,5 +1,6 @@
-//! A run of a program that searches one transfer alone, on one thread and without recording: from its words to the end
-//! of its session. What of the observation it searches, the program says.
+//! A run of a program that searches one transfer, on one thread and without recording: from its arguments to the end of
+//! its session (`settings_after`, `drive_alone`). By the trait `Scoping` the program says what of the observation is
+//! searched.
 #![tactic(auto)]
 
 mod ends;

@@ -1,5 +1,6 @@
 // What comes before the session of a lone run.
 ghost use Rattle.std.specs.Prelude.{◌≡◌, ◌≢◌, ◌*◌, ◌≤◌, ◌∷◌, [], None, Some, Err, IfOk, IfErr, OnOk, length};
+ghost use Rattle.dada_model.specs.Bounds.{ObservationInRange};
 ghost use Rattle.dada_model.specs.Observation.{Observation as Described};
 ghost use Rattle.psr_base.specs.Inputs.{HasReadFrom};
 ghost use Rattle.search_model.specs.Search.{SettingsInRange, in_one_shard as in_one_shard_of};
@@ -15,12 +16,10 @@ ghost use Rattle.search_session.specs.Lone.{IsLoneSpace};
 ghost use Rattle.search_opening.specs.First.{AreFirsts};
 ghost use Rattle.search_opening.specs.Plans.{PlansFit};
 ghost use Rattle.search_opening.specs.Begun.{HasFirsts};
-ghost use Rattle.run_stop.specs.declared.stop.Stop.{Stop as Stopped};
 ghost use Rattle.run_stop.specs.Lone.{IsOfOne};
 ghost use Rattle.run_stop.specs.Runs.{CanSearchFirst};
-ghost use Rattle.search_opening.specs.Early.{LeavesEarly};
 ghost use Rattle.lone_run.specs.Scopes.{IsBankOf};
-ghost use Rattle.lone_run.specs.Stops.{StopsEarly, StopsBank};
+ghost use Rattle.lone_run.specs.Stops.{LeavesAlone, StopsEarly, StopsBank};
 ghost use Rattle.lone_run.specs.Openings.{IsFreshFor, OpensScope, shape_for};
 
 use crate::scoping::{ScopeFault, Scoping};
@@ -40,7 +39,7 @@ use std::alloc::Global;
 // Laws: they do nothing when they run, and the proofs use what they ensure.
 use search_opening::{early_stops_stand, firsts_stay_told};
 
-/// A lone run of which all is opened.
+/// An opened lone run: all memory of its session is taken.
 pub(crate) struct OpenedAlone {
     pub(crate) observation: Observation,
     pub(crate) space: LoneSpace,
@@ -68,7 +67,7 @@ fn open_engine(
     }
 }
 
-// The bank that has it alone.
+// The bank that has only the engine of all delays.
 fn open_bank(
     alloc: Global,
     observation: &Observation,
@@ -89,7 +88,8 @@ fn open_bank(
     }
 }
 
-// The bank that searches what the program finds in the observation of a transfer, where the plan of the search fits.
+// The bank that searches what the program finds in the observation of a transfer, if it accepts that and the plan of the
+// search fits.
 fn bank_for<S: Scoping>(
     alloc: Global,
     scoping: &S,
@@ -104,14 +104,16 @@ fn bank_for<S: Scoping>(
     ensures plan { OnOk result (PlansFit search.now observations.now) }
     ensures fits { OnOk result ((w : FileStream) → AreFirsts w observations.now
         → CanSearchFirst search.now w (length w.starts)) }
+    ensures range { (o : Described) → observations.now ≡ Some o ∷ [] → ObservationInRange o }
     ensures stopped { IfErr result (λ stop. (o : Described) → observations.now ≡ Some o ∷ []
-        → StopsBank (S.scopes scoping.now) (S.refuses scoping.now) search.now o stop) }
+        → StopsBank (S.accepts scoping.now) (S.refuses scoping.now) search.now o stop) }
 {
     let Some(observation) = &observations[0] else {
         unreachable!()
     };
-    let scope = match scoping.scope(alloc, observation, search) {
-        Ok(scope) => scope,
+    observation.lies_in_range();
+    let accepted = match scoping.judge(alloc, observation) {
+        Ok(accepted) => accepted,
         Err(ScopeFault::Refused(refusal)) => return Err(LoneStop::Unscoped(refusal)),
         Err(ScopeFault::Memory) => return Err(LoneStop::Run(Stop::Memory)),
     };
@@ -119,13 +121,17 @@ fn bank_for<S: Scoping>(
         Ok(()) => {}
         Err(stop) => return Err(LoneStop::Run(stop)),
     }
+    let scope = match scoping.scope(alloc, observation, search, accepted) {
+        Ok(scope) => scope,
+        Err(_memory) => return Err(LoneStop::Run(Stop::Memory)),
+    };
     match open_bank(alloc, observation, search, scope) {
         Ok(bank) => Ok(bank),
         Err(_memory) => Err(LoneStop::Run(Stop::Memory)),
     }
 }
 
-// The space of the session of a bank, under this first header.
+// The space of the session of a bank, for this first header.
 fn take_space(
     alloc: Global,
     run: &RunSettings,
@@ -152,7 +158,7 @@ fn only_one(mut observations: ArrayVec<Option<Observation>, MOST_TRANSFERS>) -> 
     observation
 }
 
-// Finds what is searched, judges the plan of it, and takes all memory.
+// Judges the observation and the plan of its search, finds what is searched, and takes all memory.
 fn open_begun<'a, I: Inputs, S: Scoping>(
     alloc: Global,
     settings: &Settings,
@@ -168,7 +174,7 @@ fn open_begun<'a, I: Inputs, S: Scoping>(
     ensures inputs { feeder.new.inputs.now ≡ feeder.old.inputs.now }
     ensures opened { IfOk result (λ r. OpensScope (S.scopes scoping.now) I.told I.is_open
         (settings_seen settings.now) feeder.new r.observation r.space) }
-    ensures stopped { IfErr result (StopsEarly (S.scopes scoping.now) (S.refuses scoping.now)
+    ensures stopped { IfErr result (StopsEarly (S.accepts scoping.now) (S.refuses scoping.now)
         (settings_seen settings.now) (I.told feeder.old.inputs.now)) }
     ensures readable { result ≢ Err (LoneStop.Run Stop.ReadFault) }
     ensures reads_on { (before told : Told) → FeederRead before told feeder.old
@@ -190,7 +196,7 @@ fn open_begun<'a, I: Inputs, S: Scoping>(
     }
 }
 
-/// Reads the first header, finds what is searched of its observation, judges the plan of the search, and takes all
+/// Reads the first header, judges its observation and then the plan of the search, finds what is searched, and takes all
 /// memory.
 pub(crate) fn open_alone<'a, I: Inputs, S: Scoping>(
     alloc: Global,
@@ -210,11 +216,11 @@ pub(crate) fn open_alone<'a, I: Inputs, S: Scoping>(
         → result ≢ Err (LoneStop.Run Stop.ReadFault) }
     ensures opened { IfOk result (λ r. OpensScope (S.scopes scoping.now) I.told I.is_open
         (settings_seen settings.now) feeder.new r.observation r.space) }
-    ensures stopped { IfErr result (StopsEarly (S.scopes scoping.now) (S.refuses scoping.now)
+    ensures stopped { IfErr result (StopsEarly (S.accepts scoping.now) (S.refuses scoping.now)
         (settings_seen settings.now) (I.told feeder.old.inputs.now)) }
-    ensures leaves { (stop : Stopped) → result ≡ Err (LoneStop.Run stop)
-        → LeavesEarly (run_seen settings.now.run) (I.is_calm feeder.old.inputs.now)
-        (I.told feeder.old.inputs.now) (I.told feeder.new.inputs.now) stop }
+    ensures leaves { IfErr result (LeavesAlone (run_seen settings.now.run)
+        (I.is_calm feeder.old.inputs.now) (I.told feeder.old.inputs.now)
+        (I.told feeder.new.inputs.now)) }
     ensures begins { OnOk result (FeederRead (I.told feeder.old.inputs.now)
         (I.told feeder.new.inputs.now) feeder.new) }
 {

@@ -6,9 +6,9 @@ ghost use Rattle.disk_feeder.specs.Filling.{HoldsAll};
 ghost use Rattle.run_stop.specs.Lone.{LoneSearch, IsOfOne};
 ghost use Rattle.run_stop.specs.Runs.{Alone};
 ghost use Rattle.run_stop.specs.Ends.{IsRunFed};
-ghost use Rattle.run_stop.specs.Outcomes.{blocks_of, ReadsNoData, LeavesAtFault};
+ghost use Rattle.run_stop.specs.Outcomes.{blocks_of, LeavesAtFault};
 ghost use Rattle.search_opening.specs.Settings.{ForWords};
-ghost use Rattle.lone_run.specs.Stops.{FailsReading, StopsAlone};
+ghost use Rattle.lone_run.specs.Stops.{FailsReading, ReadsBefore, StopsAlone};
 ghost use Rattle.lone_run.specs.Found.{IsFoundAlone};
 
 use crate::found::LoneFound;
@@ -27,7 +27,7 @@ use std::sync::Wait;
 use run_stop::words_say_once;
 use search_opening::early_stops_are_said;
 
-// The same with all that is borrowed in one lifetime.
+// Drives a run as `drive_alone` does, with one lifetime for all borrows, so that their final values are known.
 fn within<'a, I: Inputs, S: Scoping, R: Wait>(
     rt: &R,
     alloc: Global,
@@ -45,11 +45,11 @@ fn within<'a, I: Inputs, S: Scoping, R: Wait>(
         → FailsReading result.done → ⊥ }
     ensures stopped { IfErr result.done (λ stop. (lone : LoneSearch)
         → ForWords (Alone lone) (settings_seen settings.now) (λ words.
-        StopsAlone (S.scopes scoping.now) (S.refuses scoping.now) lone words
+        StopsAlone (S.accepts scoping.now) (S.refuses scoping.now) lone words
         (I.told inputs.old) stop)) }
-    ensures unread { result.done ≡ Err (LoneStop.Run Stop.Memory) → (lone : LoneSearch)
+    ensures unread { IfErr result.done (λ stop. (lone : LoneSearch)
         → ForWords (Alone lone) (settings_seen settings.now) (λ words.
-        ReadsNoData (Alone lone) words (I.told inputs.old) (I.told result.inputs.now)) }
+        ReadsBefore lone words (I.told inputs.old) (I.told result.inputs.now) stop)) }
     ensures broken { FailsReading result.done → (lone : LoneSearch)
         → ForWords (Alone lone) (settings_seen settings.now) (λ words.
         LeavesAtFault (Alone lone) words (I.is_calm inputs.old) (I.told inputs.old)
@@ -95,10 +95,10 @@ fn within<'a, I: Inputs, S: Scoping, R: Wait>(
     }
 }
 
-/// Drives a run of a program that searches one transfer alone, from its settings to the end of its session, on this
-/// thread. At `Ok` the session went to its end; its `feed` says whether all data were read. At `Err` the run stopped
-/// before its session: the first header, the observation or the search is refused, in this order, the inputs failed, or
-/// there was no memory. It may not end.
+/// Drives a run of a program that searches one transfer, from its settings to the end of its session, on this thread.
+/// At `Ok` the session went to its end; its `feed` says whether all data were read. At `Err` the run stopped before its
+/// session: the first header, the observation or the search is refused, in this order, the inputs failed, or there was
+/// no memory. It may not end.
 pub fn drive_alone<I: Inputs, S: Scoping, R: Wait>(
     rt: &R,
     alloc: Global,
@@ -115,11 +115,11 @@ pub fn drive_alone<I: Inputs, S: Scoping, R: Wait>(
         → FailsReading result → ⊥ }
     ensures stopped { IfErr result (λ stop. (lone : LoneSearch)
         → ForWords (Alone lone) (settings_seen settings.now) (λ words.
-        StopsAlone (S.scopes scoping.now) (S.refuses scoping.now) lone words
+        StopsAlone (S.accepts scoping.now) (S.refuses scoping.now) lone words
         (I.told inputs.old) stop)) }
-    ensures unread { result ≡ Err (LoneStop.Run Stop.Memory) → (lone : LoneSearch)
+    ensures unread { IfErr result (λ stop. (lone : LoneSearch)
         → ForWords (Alone lone) (settings_seen settings.now) (λ words.
-        ReadsNoData (Alone lone) words (I.told inputs.old) (I.told inputs.new)) }
+        ReadsBefore lone words (I.told inputs.old) (I.told inputs.new) stop)) }
     ensures broken { FailsReading result → (lone : LoneSearch)
         → ForWords (Alone lone) (settings_seen settings.now) (λ words.
         LeavesAtFault (Alone lone) words (I.is_calm inputs.old) (I.told inputs.old)

@@ -43,7 +43,7 @@ fn engine_of(bank: Bank) -> Engine
     first_of(&mut engines)
 }
 
-/// Drives the session of a lone run of which all is opened.
+/// Drives the session of an opened lone run.
 pub(crate) fn go_on<'a, I: Inputs, R: Wait>(
     rt: &R,
     opened: OpenedAlone,
@@ -64,6 +64,7 @@ pub(crate) fn go_on<'a, I: Inputs, R: Wait>(
     sessions_feed_files::<I, ()>();
     firsts_stay_told();
     let OpenedAlone { observation, space } = opened;
+    observation.lies_in_range();
     let session = space.session(feeder);
     let end = run_alone(rt, session, inputs, &NoGate, 0);
     LoneFound {

@@ -1,4 +1,4 @@
-// The words of a program that searches alone.
+// The arguments of a program that searches one transfer.
 ghost use Rattle.std.specs.Prelude.{◌≡◌, true, false, drop, map, string_bytes, IfOk, IfErr};
 ghost use Rattle.search_words.specs.Settings.{AllInRange, settings_seen};
 ghost use Rattle.run_stop.specs.Lone.{IsOfOne, IsOfOther, SayOneSearch, ExplainsOneSearch};
@@ -6,7 +6,7 @@ ghost use Rattle.run_stop.specs.Lone.{IsOfOne, IsOfOther, SayOneSearch, Explains
 use search_words::{Settings, WordFault};
 use std::alloc::Global;
 
-// The words after the first so many.
+// The words from `before` on.
 fn words_after(words: &[String], before: usize) -> &[String]
     ensures { map string_bytes result.now ≡ drop before (map string_bytes words.now) }
 {
@@ -24,8 +24,8 @@ fn is_of_one(settings: &Settings) -> bool
     settings.run.starts.len() == 1
 }
 
-/// The settings of the search that the words say after the first so many, of which the next stands where a program's
-/// name does: of one transfer, and without recording. That they are of another search is seen last.
+/// Reads search settings from `words[before..]`, whose first word takes the place of a program's name and is ignored.
+/// Refuses several transfers and `--record`, after all other refusals.
 pub fn settings_after(alloc: Global, words: &[String], before: usize) -> Result<Settings, WordFault>
     ensures says { IfOk result (λ s.
         SayOneSearch before (map string_bytes words.now) (settings_seen s)) }

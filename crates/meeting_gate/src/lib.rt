@@ -1,11 +1,12 @@
-//! Gates for tests: one at which two actors of a session wait for each other, which shows whether their hands run at the
-//! same time; and one that counts the turns of each actor.
+//! Gates for tests: one at which two actors of a session wait for each other, which shows whether their hands run at
+//! the same time (`Meeting`); and one that counts the turns of each actor (`TurnCount`). A test makes a gate and passes
+//! it to the top call of a program.
 #![tactic(auto)]
 
 use search_session::Gate;
 use std::sync::atomic::{AtomicBool, AtomicU64, Ordering};
 
-/// How often one of them looks for the other.
+/// How often an actor looks for the other.
 const LOOKS: u32 = 100_000_000;
 
 /// An actor: whether it came, and whether it then saw the other one.
@@ -37,8 +38,7 @@ impl Guest {
     }
 }
 
-/// A gate at which two actors wait for each other once. Both see each other only where their hands run at the same
-/// time.
+/// A gate at which two actors wait for each other once. Both see each other only if their hands run at the same time.
 #[derive(Drop)]
 pub struct Meeting {
     one: Guest,
@@ -46,7 +46,7 @@ pub struct Meeting {
 }
 
 impl Meeting {
-    /// Of these two actors.
+    /// A gate for these two actors.
     pub fn of(one: u32, other: u32) -> Meeting {
         Meeting {
             one: Guest::new(one),
@@ -73,8 +73,8 @@ impl Gate for Meeting {
     }
 }
 
-/// A gate that counts the turns of each actor, by its number, and sees whether each turn is told with the number of
-/// turns before it.
+/// A gate that counts the turns of each actor, by its number, and sees whether it is called with the number of turns
+/// before each.
 #[derive(Drop)]
 pub struct TurnCount {
     turns: [AtomicU64; 9],
@@ -82,7 +82,7 @@ pub struct TurnCount {
 }
 
 impl TurnCount {
-    /// No turn was told.
+    /// A gate before any turn.
     pub fn new() -> TurnCount {
         TurnCount {
             turns: [
@@ -100,7 +100,7 @@ impl TurnCount {
         }
     }
 
-    /// Whether each turn was told with its own number, and exactly these actors took any.
+    /// Whether it was called with each turn's own number, and exactly these actors took turns.
     pub fn took_turns(&self, actors: &[u32]) -> bool {
         for (actor, turns) in self.turns.iter().enumerate() {
             let has_turns = turns.load(Ordering::SeqCst) > 0;

@@ -17,7 +17,7 @@ use run_stop::accepted_goes_on;
 use search_model::{candidates_are_listed, samples_of_bytes, sums_are_bounded};
 use stream_model::{first_files_continue, whole_exactly};
 
-/// Room for the text of as many candidates as there may be.
+/// Room for the text of the largest number of candidates.
 const ROOM: u64 = 8_388_608;
 
 /// How the search ended, and its text.

@@ -2,7 +2,7 @@
 ghost use Rattle.std.specs.Prelude.{◌≡◌, ◌-◌, ◌≤◌, ◌⊎◌, ◌↔◌, IsTrue, length, drop, slice_index};
 ghost use Rattle.psr_demo.specs.LastLine.{IsLastLine};
 
-// Whether a line begins here: at the front, or after a line feed.
+// Whether a line begins at `start`: at the front, or after a line feed.
 fn begins_line(text: &[u8], start: usize) -> bool
     requires { start ≤ length text.now }
     ensures { IsTrue result ↔ ((start ≡ 0) ⊎ (slice_index text.now (start - 1) ≡ 10)) }

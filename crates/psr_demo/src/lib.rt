@@ -1,4 +1,5 @@
 //! The demonstration: the observation of a number is made and searched in memory, and what was found is summed up.
+//! `run_demo` is the whole program `psr_demo`.
 #![tactic(auto)]
 
 mod asking;

@@ -1,4 +1,4 @@
-// The observation of a number, and the words of its search.
+// The observation of a number, and the words that its search is called with.
 ghost use Rattle.std.specs.Prelude.{◌≡◌, ◌≤◌, map, string_bytes, codes, Some, IfOk};
 ghost use Rattle.psr_base.specs.InMemory.{calm_told};
 ghost use Rattle.psr_make.specs.Made.{SpecInRange, made_file};
@@ -9,7 +9,7 @@ use psr_base::{CalmInputs, Memory};
 use psr_make::{MakeSpec, make_bytes};
 use std::alloc::Global;
 
-/// The words of the search, of which the last names the observation.
+/// The words that the search is called with; the last names the observation.
 const WORDS: [&str; 14] = [
     "psr_search",
     "--mean",
@@ -58,7 +58,7 @@ pub(crate) fn made_inputs(alloc: Global, number: u64) -> Result<CalmInputs, Memo
     Ok(inputs)
 }
 
-/// The words of its search.
+/// The words that its search is called with.
 pub(crate) fn search_words(alloc: Global) -> Result<Vec<String>, Memory>
     ensures { IfOk result (λ words. map string_bytes words.items ≡ search_line) }
 {

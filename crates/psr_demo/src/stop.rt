@@ -4,7 +4,7 @@ ghost use Rattle.std.specs.Prelude.{◌≡◌};
 /// Why there is no whole summary.
 #[derive(Clone, Copy, Debug, PartialEq, Eq)]
 pub enum Stop {
-    /// The words are not the program's name and a number.
+    /// The arguments are not one number.
     Words,
     /// There was no memory.
     Memory,

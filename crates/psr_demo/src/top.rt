@@ -13,10 +13,10 @@ use std::sync::Wait;
 use std::thread::Threads;
 use std::time::Clock;
 
-/// Makes the observation of the number that the words ask for, searches it in memory, and writes a summary to `out`.
-/// The first word is the program's name. It answers the exit status: that of the search, or that of the stop for which
-/// there is no whole summary. The search alone writes to `notes`, whose faults change nothing, and calls `gate` at each
-/// turn. It may not end.
+/// Makes the observation of the number that the arguments ask for, searches it in memory, and writes a summary to
+/// `out`. `words` are the program's name and its arguments. Answers the exit status: that of the search, or that of the
+/// stop for which there is no whole summary. Only the search writes to `notes`, whose faults change nothing, and calls
+/// `gate` at each turn. It may not end.
 pub fn run_demo<K: Sink, E: Sink, G: Gate + Sync, R: Threads + Wait + Clock + Sync>(
     rt: &R,
     alloc: Global,

@@ -6,8 +6,8 @@ use psr_base::Inputs;
 // A law: it does nothing when it runs, and the proofs use what it ensures.
 use run_stop::accepted_goes_on;
 
-/// Words, headers, recordings and data that are accepted are recorded, or there is no memory, where neither the inputs
-/// nor the files that are made count a fault.
+/// If arguments, headers, recordings and data are accepted, the data are recorded, or there is no memory, provided that
+/// neither the inputs nor the files that are made count a fault.
 pub fn accepted_is_recorded<I: Inputs>()
     ensures { (inputs : I) → AcceptedIsRecorded (I.is_calm inputs) }
 {

@@ -1,4 +1,5 @@
-//! The recording of files of filterbank samples into new files.
+//! The recording of files of filterbank samples into new files: `run_record` is the whole program `psr_record`, over
+//! inputs, files and notes of the caller's.
 #![tactic(auto)]
 
 mod laws;

@@ -19,9 +19,9 @@ use whole_run::{Found, ProgramEnd, drive};
 // Laws: they do nothing when they run, and the proofs use what they ensure.
 use run_stop::{end_after_whole, end_at_stop, end_at_words, end_before_session};
 
-/// Records the data of the files that the words name in new files. The first word is the program's name. `gate` is
-/// called at each turn. It answers the exit status, and what went through the data ring, where there was one; where the
-/// status isn't 0, a line to `notes` says why. A fault of `notes` changes nothing. It may not end.
+/// Records the data of the files that the arguments name in new files. `words` are the program's name and its
+/// arguments. `gate` is called at each turn. Answers the exit status, and what went through the data ring, if there was
+/// one; if the status isn't 0, a line to `notes` says why. A fault of `notes` changes nothing. It may not end.
 pub fn run_record<
     I: Inputs + Send,
     F: Files + Send,
@@ -67,7 +67,7 @@ fn stop_of(found: &Found) -> Option<Stop>
     }
 }
 
-// The same without the notes.
+// Records as `run_record` does, without the notes.
 fn record_files<
     I: Inputs + Send,
     F: Files + Send,

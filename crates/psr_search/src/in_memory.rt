@@ -14,7 +14,7 @@ use std::sync::Wait;
 use std::thread::Threads;
 use std::time::Clock;
 
-/// Searches files in memory, as `run` does. The inputs are calm where none of their calls is to fail.
+/// Searches files in memory, as `run` does. The inputs are calm if none of their calls is to fail.
 pub fn run_in_memory<G: Gate + Sync, R: Threads + Wait + Clock + Sync>(
     rt: &R,
     alloc: Global,

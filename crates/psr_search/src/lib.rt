@@ -1,4 +1,5 @@
-//! The search of files of filterbank samples for dispersed pulses and folded periods.
+//! The search of files of filterbank samples for dispersed pulses and folded periods: `run` is the whole program
+//! `psr_search`, over inputs, files and streams of the caller's; `run_in_memory` is `run` over those in memory.
 #![tactic(auto)]
 
 mod in_memory;

@@ -18,10 +18,10 @@ use whole_run::{ProgramEnd, drive};
 // Laws: they do nothing when they run, and the proofs use what they ensure.
 use run_stop::{end_after_whole, end_at_stop, end_at_words, end_before_session, words_say_once};
 
-/// Searches the files that the words name for dispersed pulses and folded periods, and writes their text to `out`. The
-/// data are recorded in `files` where the words ask for it. The first word is the program's name. `gate` is called at
-/// each turn. It answers the exit status, and what went through the data ring, where there was one; where the status
-/// isn't 0, a line to `notes` says why. A fault of `notes` changes nothing. It may not end.
+/// Searches the files that the arguments name for dispersed pulses and folded periods, and writes their text to `out`.
+/// The data are recorded in `files` if the arguments ask for it. `words` are the program's name and its arguments.
+/// `gate` is called at each turn. Answers the exit status, and what went through the data ring, if there was one; if
+/// the status isn't 0, a line to `notes` says why. A fault of `notes` changes nothing. It may not end.
 pub fn run<
     I: Inputs + Send,
     F: Files + Send,
@@ -58,7 +58,7 @@ pub fn run<
     Ran { status, blocks }
 }
 
-// The same without the notes.
+// Searches as `run` does, without the notes.
 fn search<
     I: Inputs + Send,
     F: Files + Send,

@@ -39,7 +39,7 @@ fn write_text<K: Sink>(search: &Search, found: &Found, out: &mut K) -> Option<St
     }
 }
 
-/// Writes the text of what was found, where all data were searched, and answers what the search came to.
+/// Writes the text of what was found, if all data were searched, and answers how the search ended.
 pub(crate) fn write_end<K: Sink>(search: &Search, found: &Found, out: &mut K) -> Option<Stop>
     requires range { SettingsInRange search.now }
     requires found { (bytes : ℕ) → found.now.feed ≡ Whole bytes

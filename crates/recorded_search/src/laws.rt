@@ -12,14 +12,14 @@ use stream_model::{
     recorded_files_give_the_data, recorded_transfers_give_the_data, walk_joins_data, whole_exactly,
 };
 
-/// Fed in order, the recorded files of a whole transfer are a whole stream with the same data.
+/// Fed in order, the recorded files of a whole transfer are a whole stream with the data of that transfer.
 pub fn recorded_files_are_read_back()
     ensures { RecordedFilesGiveTheData }
 {
     recorded_files_give_the_data();
 }
 
-/// Fed in order, the files of a recording of all data are a whole stream with the same data.
+/// Fed in order, the files of a recording of all data are a whole stream with these data.
 pub fn recorded_is_read_back()
     ensures { RecordedIsReadBack }
 {
@@ -54,31 +54,31 @@ pub fn recorded_is_observed_alike()
     recorded_is_alike();
 }
 
-/// A search of the files of a recording of all data has the text and the candidates of the same search of the data.
+/// A search of the files of a recording of all data has the text and the candidates that this search has of the data.
 pub fn recorded_is_searched_alike()
     ensures { RecordedIsSearchedAlike }
 {
     recorded_is_observed_alike();
 }
 
-/// Nothing stands against a search of the files of a recording of all data where nothing stands against the same search
-/// of the data, if it records nothing itself and may take as many data bytes as the recording.
+/// Nothing stands against a search of the files of a recording of all data if nothing stands against that search of the
+/// data, it records nothing itself, and it may take as many data bytes as the recording.
 pub fn recorded_can_be_searched()
     ensures { RecordedCanBeSearched }
 {
     recorded_is_alike();
 }
 
-/// Two searches that end with status 0 write the same text, where one searches files, and the other with the same
-/// settings the files of a recording of all their data.
+/// Two searches with equal settings that end with status 0 write one text if one searches files, and the other the
+/// files of a recording of all their data.
 pub fn recorded_is_found_alike<I: Inputs, J: Inputs>()
     ensures { (inputs : I) (again : J) → RecordedIsFoundAlike (I.is_calm inputs) (J.is_calm again) }
 {
     recorded_is_searched_alike();
 }
 
-/// The search of the files of a recording of all data is accepted where the same search of the data is, if it records
-/// nothing itself and may take as many data bytes as the recording.
+/// The search of the files of a recording of all data is accepted if that search of the data is, it records nothing
+/// itself, and it may take as many data bytes as the recording.
 pub fn recorded_is_accepted()
     ensures { RecordedIsAccepted }
 {

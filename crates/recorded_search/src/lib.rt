@@ -1,5 +1,6 @@
-//! What was recorded is read and searched again: the files of a recording have the data and the observations that were
-//! recorded, where a search of files is accepted, so is that of a recording of their data, and both write one text.
+//! What was recorded is read and searched again. These are laws alone: the files of a recording have the data and the
+//! observations that were recorded; if a search of files is accepted, so is that of a recording of their data; and both
+//! write one text.
 #![tactic(auto)]
 
 mod laws;

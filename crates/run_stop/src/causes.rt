@@ -57,13 +57,14 @@ pub(crate) fn push_header_cause(line: &mut Line, cause: HeaderCause)
 /// Why the search of an observation is refused before it begins.
 #[derive(Clone, Copy, Debug, PartialEq, Eq)]
 pub enum PlanCause {
-    /// A sum may pass 32 bits: the greatest sample, the most cells of a path sum, and how many path sums are added.
+    /// A sum may pass 32 bits: the largest sample, the largest number of cells of a path sum, and how many path sums
+    /// are added.
     SumBound {
         max_sample: u32,
         cells: u32,
         factor: u32,
     },
-    /// A fold has too many values: the longest period, and how often its rows are halved at most.
+    /// A fold has too many values: the longest period, and the largest number of halvings of its rows.
     FoldTooLarge {
         longest: u32,
         halvings: u32,
@@ -120,7 +121,7 @@ pub enum RecordingCause {
     NoUtc,
     /// UTC_START is not of the form yyyy-mm-dd-hh:mm:ss.
     BadUtc,
-    /// A change makes the header's text so long (bytes), for a header of this size.
+    /// A change makes the header's text `need` bytes long, in a header of `size` bytes.
     Overfull { need: usize, size: usize },
     /// There may be more files than numbers of six digits.
     TooManyFiles,

@@ -13,8 +13,8 @@ use std::env::Args;
 use std::io;
 use std::io::ErrorKind;
 
-/// The words that a program was started with, its name first. Where the system gives none, the notes take a line that
-/// says why, and the exit status is answered: that of refused words, as where one isn't UTF-8, or that of want of
+/// The words that a program was started with, its name first. If the system gives none, a line to the notes says why,
+/// and the exit status is answered: that of refused arguments, for instance if one isn't UTF-8, or that of want of
 /// memory. A fault of the notes changes nothing.
 pub fn words_or_status<E: Sink>(
     args: io::Result<Args>,

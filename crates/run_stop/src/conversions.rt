@@ -18,7 +18,7 @@ impl Stop {
     ghost use Rattle.run_stop.specs.Conversions.{stop_of_words, stop_of_header, stop_of_fields, stop_of_begin, stop_of_plan, IsRecordingStop, stop_of_feed, stop_of_recorder};
     ghost use Rattle.run_stop.specs.Runs.{stop_of_walk};
 
-    /// The stop of words that say no settings.
+    /// The stop of arguments that give no settings.
     pub fn of_words(fault: WordFault) -> Stop
         ensures { result ≡ stop_of_words fault }
     {
@@ -55,7 +55,7 @@ impl Stop {
         }
     }
 
-    /// The stop where first headers could not be read.
+    /// The stop if first headers could not be read.
     pub fn of_begin(fault: FeedFault) -> Stop
         ensures { result ≡ stop_of_begin fault }
     {
@@ -92,7 +92,7 @@ impl Stop {
         }
     }
 
-    /// The stop of a recording that is refused, under a header that was read.
+    /// The stop of a recording that is refused, for a header that was read.
     pub fn of_recording(fault: RecordFault) -> Stop
         requires { (refusal : RecordRefusal) × IsRefusal fault refusal }
         ensures { IsRecordingStop fault result }
@@ -108,7 +108,7 @@ impl Stop {
         }
     }
 
-    /// The stop of a stream of files that was given up, or none where all data were sealed.
+    /// The stop of a stream of files that was given up, or none if all data were sealed.
     pub fn of_feed(end: FeedEnd) -> Option<Stop>
         ensures is { result ≡ stop_of_feed end }
         ensures walked { (bytes limit : ℕ) (stop : WalkStop) → end ≡ end_of bytes limit stop
@@ -133,7 +133,7 @@ impl Stop {
         }
     }
 
-    /// The stop of a recorder of whose files a call failed, or none.
+    /// The stop of a recorder whose files failed at a call, or none.
     pub fn of_recorder(recorded: Option<RecordEnd>) -> Option<Stop>
         ensures is { result ≡ stop_of_recorder recorded }
         ensures none { result ≡ None → recorded ≢ Some RecordEnd.FileFault }

@@ -8,45 +8,45 @@ use crate::laws::whole_runs_record_data;
 use search_words::said_is_in_range;
 use stream_model::{first_stop_counts, no_stop_is_whole};
 
-/// Which stop the statuses 5 and 6 are those of.
+/// Status 5 means only `Memory`, status 6 only `ReadFault`.
 pub fn statuses_say_stops()
     ensures { StatusesSayStops }
 {}
 
-/// What the exit status says where the words say no settings.
+/// What the exit status says if the arguments give no settings.
 pub fn end_at_words<I: Inputs>()
     ensures { (inputs : I) → EndAtWords (I.is_calm inputs) }
 {}
 
-/// The same words never say two different settings.
+/// Arguments never give two different settings.
 pub fn words_say_once()
     ensures { WordsSayOnce }
 {}
 
-/// What the exit status says where a run stops between its words and its session: nothing was recorded, and no block
+/// What the exit status says if a run stops between its arguments and its session: nothing was recorded, and no block
 /// was sealed.
 pub fn end_before_session<I: Inputs>()
     ensures { (inputs : I) → EndBeforeSession (I.is_calm inputs) }
 {}
 
-/// What the exit status says where the feeder of the session was stopped.
+/// What the exit status says if the feeder of the session was stopped.
 pub fn end_at_stop<I: Inputs>()
     ensures { (inputs : I) → EndAtStop (I.is_calm inputs) }
 {}
 
-/// What the exit status says of words, inputs, files and data ring, once all data were sealed.
+/// What the exit status says of arguments, inputs, files and data ring, once all data were sealed.
 pub fn end_after_whole<I: Inputs>()
     ensures { (inputs : I) → EndAfterWhole (I.is_calm inputs) }
 {
     whole_runs_record_data();
 }
 
-/// Where nothing stands against a run, it ends at none of its words, inputs and files.
+/// If nothing stands against a run, it ends at none of its arguments, inputs and files.
 pub fn accepted_goes_on<I: Inputs>()
     ensures { (inputs : I) → AcceptedGoesOn (I.is_calm inputs) }
 {}
 
-/// Where a first file has no header, and those before it have, a run ends with status 3, or for want of memory with 5,
+/// If a first file has no header, and those before it have, a run ends with status 3, or for want of memory with 5,
 /// whatever is told of other files.
 pub fn texts_are_answered<I: Inputs>()
     ensures { (inputs : I) → TextsAreAnswered (I.is_calm inputs) }
@@ -54,17 +54,17 @@ pub fn texts_are_answered<I: Inputs>()
     said_is_in_range();
 }
 
-/// Where all first files have headers, and one of these says no observation, a run ends with status 3, and where a
-/// search or a recording is refused, with status 4; or for want of memory with 5. Nothing need be told of other files.
+/// If all first files have headers, and one of these has no observation, a run ends with status 3; if a search or a
+/// recording is refused, with status 4; or for want of memory with 5. Nothing need be told of other files.
 pub fn firsts_are_answered<I: Inputs>()
     ensures { (inputs : I) → FirstsAreAnswered (I.is_calm inputs) }
 {
     said_is_in_range();
 }
 
-/// Where the walk of its files stops, a run whose session began, or whose first files are told and accepted, ends with
-/// the status of that stop, which is 3, 7 or 8, or for want of memory with 5. Of the files after that one nothing else
-/// need be told.
+/// If the walk of its files stops, a run whose session began, or whose first files are told and accepted, ends with the
+/// status of that stop, which is 3, 7 or 8, or for want of memory with 5. Nothing else need be told of the files after
+/// that one.
 pub fn stops_are_answered<I: Inputs>()
     ensures { (inputs : I) → StopsAreAnswered (I.is_calm inputs) }
 {

@@ -1,4 +1,6 @@
-//! Why a run of a program stopped before its end: its exit status, and the line that tells the user.
+//! Why a run of a program stopped before its end (`Stop`): its exit status, and the line on standard error.
+//! `Stop::of_..` make stops of the faults of lower crates, and `tell` writes the line; the laws say what a status
+//! means.
 #![tactic(auto)]
 
 mod causes;

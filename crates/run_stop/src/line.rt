@@ -1,4 +1,4 @@
-// Parts of the line that tells the user.
+// Parts of the line on standard error.
 ghost use Rattle.std.specs.Prelude.{◌≡◌, ◌≤◌, ◌+◌, ◌++◌, [], codes, length};
 ghost use Rattle.std.specs.Fmt.{decimal};
 ghost use Rattle.dada_model.specs.Observation.{keyword};
@@ -32,7 +32,7 @@ pub(crate) fn push_named_number(line: &mut Line, name: &str, number: u64)
     line.push_number(number);
 }
 
-/// The same with a number of 32 bits.
+/// Appends a name and a number of 32 bits.
 pub(crate) fn push_named_word(line: &mut Line, name: &str, number: u32)
     requires room { length line.old ≤ 190 }
     requires short { length name.now ≤ 19 }

@@ -12,7 +12,7 @@ use text_line::Line;
 /// Why a run ended without all that it was asked for. Files count from 0 over all transfers.
 #[derive(Clone, Copy, Debug, PartialEq, Eq)]
 pub enum Stop {
-    /// The words are refused.
+    /// The arguments are refused.
     Words,
     /// The value of an option is out of its range.
     Value(Opt),
@@ -29,7 +29,7 @@ pub enum Stop {
     Memory,
     /// The inputs failed.
     ReadFault,
-    /// The OBS_OFFSET of a file, `found`, is not the one that continues its transfer, `expected`: both in bytes.
+    /// The OBS_OFFSET of a file is `found`, but the one that continues its transfer is `expected`: both in bytes.
     Gap {
         file: u32,
         expected: u64,
@@ -46,7 +46,7 @@ pub enum Stop {
     },
     /// The output failed.
     SinkFault,
-    /// The files that are made failed.
+    /// A call on the files that are made failed.
     FileFault,
 }
 
@@ -119,7 +119,7 @@ impl Stop {
         }
     }
 
-    /// The line that tells the user.
+    /// The line on standard error.
     pub fn note(self) -> Line
         ensures { result ≡ note_of self }
     {

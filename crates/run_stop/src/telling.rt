@@ -11,15 +11,15 @@ use crate::stop::Stop;
 use psr_base::{Sink, write_all};
 use text_line::Line;
 
-/// Tells the user one line, by the notes. A fault of theirs changes nothing: they have taken its front.
+/// Writes a line to the notes. A fault of theirs changes nothing: they have taken a front of the line.
 pub fn tell_line<E: Sink>(line: &Line, notes: &mut E)
     ensures { Noted line.now (E.seen notes.old) (E.seen notes.new) }
 {
     let _ = write_all(notes, line.as_bytes());
 }
 
-/// Tells why a run stopped, by a line to the notes, and answers the exit status. Where it came to no stop that is 0,
-/// and the notes take nothing. A fault of the notes changes nothing.
+/// Writes why a run stopped as a line to the notes, and answers the exit status. If it didn't stop, the status is 0 and
+/// the notes take nothing. A fault of the notes changes nothing.
 pub fn tell<E: Sink>(stop: Option<Stop>, notes: &mut E) -> u8
     ensures status { result ≡ end_status stop }
     ensures silent { stop ≡ None → E.seen notes.new ≡ E.seen notes.old }

@@ -9,7 +9,7 @@ use obs_plan::Observation;
 use psr_base::Inputs;
 
 /// Gives the feeder the observations of all first headers, by which it judges the later headers of each transfer. Its
-/// turns then go on from where the first header is sealed, which the caller does, and no data are.
+/// turns then go on from where the first header is sealed, which the caller has to do, and no data are.
 pub fn accept_all<'a, I: Inputs>(feeder: &mut Feeder<'a, I>, observations: &[Option<Observation>])
     requires some { 1 ≤ length observations.now }
     requires begun { IsBegun (I.told feeder.old.inputs.now) feeder.old }

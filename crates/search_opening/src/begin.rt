@@ -19,9 +19,9 @@ use search_model::MOST_TRANSFERS;
 use search_words::RunSettings;
 use std::alloc::Global;
 
-/// The observations of all transfers of a run by their first headers, in order, as `begin_feed` gives them: what was
-/// read, or why not all were, is said of the files that the settings name. At `Err` the first header that is refused, a
-/// fault of the inputs, or want of memory: whatever the run is for.
+/// The observations of all transfers of a run by their first headers, in order, as `begin_feed` gives them; the clauses
+/// speak of the files that the settings name. At `Err` the first header that is refused, a fault of the inputs, or want
+/// of memory.
 pub fn begin_run<'a, I: Inputs>(
     alloc: Global,
     run: &RunSettings,

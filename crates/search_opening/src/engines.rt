@@ -60,7 +60,7 @@ fn open_engines(
     Ok(engines)
 }
 
-// The bank of a shard, which has an engine for each transfer, in order, or none where there was no memory.
+// The bank of a shard, with an engine for each transfer, in order; `None` if there was no memory.
 fn open_bank(
     alloc: Global,
     observations: &[Option<Observation>],
@@ -81,7 +81,7 @@ fn open_bank(
     }
 }
 
-// So many slots.
+// `shards` empty slots.
 fn no_banks(shards: u32) -> ArrayVec<Option<Bank>, MOST_SHARDS>
     requires { shards ≤ 7 }
     ensures { length result.items ≡ shards }
@@ -105,7 +105,7 @@ fn are_opened(banks: &[Option<Bank>]) -> bool
     true
 }
 
-// Opens the bank of each shard in its slot, where there is memory. So many threads at most do so beside each other.
+// Opens the bank of each shard in its slot, if there is memory. At most `threads` threads do so at the same time.
 fn fill_banks<R: Threads + Sync>(
     rt: &R,
     alloc: Global,
@@ -134,8 +134,8 @@ fn fill_banks<R: Threads + Sync>(
     );
 }
 
-/// Takes the memory for a search whose plans fit: a bank for each shard, which has an engine for each transfer, in
-/// order. So many threads at most open them beside each other.
+/// Takes the memory for a search whose plans fit: a bank for each shard, with an engine for each transfer, in order. At
+/// most `threads` threads open them at the same time.
 pub fn open_banks<R: Threads + Sync>(
     rt: &R,
     alloc: Global,

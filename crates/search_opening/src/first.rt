@@ -47,7 +47,7 @@ fn observe_all<'a, I: Inputs>(
 
 /// The observations of all transfers by their first headers, in order; transfer k begins with file `starts[k]`. All
 /// headers are read, each judged by its text as it is read, before the first is judged by its fields. At `Err` the
-/// first that is refused, a fault of the inputs, or want of memory.
+/// first header that is refused, a fault of the inputs, or want of memory.
 pub fn begin_feed<'a, I: Inputs>(
     alloc: Global,
     feeder: &mut Feeder<'a, I>,

@@ -7,18 +7,18 @@ use psr_base::Inputs;
 // A law: it does nothing when it runs, and the proofs use what it ensures.
 use run_stop::words_say_once;
 
-/// What a stop before the session says of the files stands as long as what is told under their names does.
+/// What a stop before the session says of the files holds as long as the bytes that are told under their names stay.
 pub fn early_stops_stand()
     ensures { EarlyStopsStand }
 {}
 
-/// The first files stay told as long as what is told under their names does.
+/// The first files stay told as long as the bytes that are told under their names stay.
 pub fn firsts_stay_told()
     ensures { FirstsStayTold }
 {}
 
-/// A run was given up by its settings, before its session: so it is for all words that say these settings, and it has
-/// read what such a run reads.
+/// A run that is given up by its settings before its session is given up by every command line that gives these
+/// settings, and it has read what such a run reads.
 pub fn early_stops_are_said<I: Inputs>()
     ensures said { EarlyStopsAreSaid }
     ensures leave { (inputs : I) → EarlyStopsLeave (I.is_calm inputs) }
@@ -26,15 +26,15 @@ pub fn early_stops_are_said<I: Inputs>()
     words_say_once();
 }
 
-/// The feeder of a session, over the files of a run's settings, did what the feeder of the run does, for all words that
-/// say the settings.
+/// The feeder of a session over the files of a run's settings did what the feeder of the run does, for every command
+/// line that gives these settings.
 pub fn sessions_feed_files<I: Inputs, F>()
     ensures { SessionsFeedFiles F I.told I.is_calm I.faults }
 {
     words_say_once();
 }
 
-/// What a session recorded of the files of a run's settings it recorded for all words that say them.
+/// A recording that is right for the settings of a run is right for every command line that gives these settings.
 pub fn recordings_are_said()
     ensures { RecordingsAreSaid }
 {

@@ -26,10 +26,11 @@ use search_words::RunSettings;
 use std::alloc::Global;
 use std::thread::Threads;
 
-/// A run of which all is opened: the observation of each transfer, in order, and all space of its session and of its
-/// recorder. Each slot is `Some`.
+/// An opened run: all space of its session and of its recorder is taken.
 pub struct OpenedRun<'a, I, F> {
+    /// The observation of each transfer, in order. Each slot is `Some`.
     pub observations: ArrayVec<Option<Observation>, MOST_TRANSFERS>,
+    /// All space.
     pub spaces: Spaces<'a, I, F>,
 }
 
@@ -81,8 +82,8 @@ fn open_begun<'a, I: Inputs, F: Files, R: Threads + Sync>(
     }
 }
 
-/// Reads the first headers, judges what they say, and takes all memory. `offsets` is space for where the data of each
-/// transfer begin.
+/// Reads the first headers, judges them, and takes all memory. `offsets` is space for the OBS_OFFSET of the first data
+/// byte of each transfer.
 pub fn open_run<'a, I: Inputs, F: Files, R: Threads + Sync>(
     rt: &R,
     alloc: Global,

@@ -14,7 +14,7 @@ use run_stop::Stop;
 use search_engine::{PlanFault, check_plan};
 use search_model::Search;
 
-// Whether the search of an observation fits, where there is one.
+// Whether the search of an observation fits, if there is one.
 fn check_at(observation: &Option<Observation>, search: &Search) -> Result<(), PlanFault>
     requires { SettingsInRange search.now }
     ensures fits { OnOk result (IfSome observation.now (λ o. plan_refusal o search.now ≡ None)) }

@@ -37,13 +37,13 @@ fn fits_one(
         unreachable!()
     };
     observation.lies_in_range();
-    // What `bytes` ensures: a header is read back from them.
+    // What `bytes` ensures: it is read back as the header.
     let _bytes = header.bytes();
     space.copy_from(header);
     fits(space, observation.obs_offset(), file_size, max_bytes)
 }
 
-// Whether the data of each transfer can, in order, or why the first that can't is refused.
+// Checks in order that each transfer can be recorded; answers the first refusal.
 fn judge_recordings<'a, I: Inputs>(
     feeder: &Feeder<'a, I>,
     observations: &[Option<Observation>],
@@ -70,8 +70,8 @@ fn judge_recordings<'a, I: Inputs>(
     Ok(())
 }
 
-/// Whether the data of each transfer, at most `max_bytes` of them, can be recorded in files of `file_size` data bytes,
-/// in order, or why the first that can't is refused. The headers are judged in `space`.
+/// Checks in order that the data of each transfer, at most `max_bytes` of them, can be recorded in files of `file_size`
+/// data bytes; answers the first refusal. The headers are judged in `space`.
 pub fn fit_all<'a, I: Inputs>(
     feeder: &Feeder<'a, I>,
     observations: &[Option<Observation>],

@@ -15,8 +15,8 @@ use search_model::MOST_SHARDS;
 use search_session::{Bank, Hand, Stage};
 use std::alloc::Global;
 
-// How many bytes the space of a shard has: room for a header, and where the rings have other readers for a block of
-// data too, so that the shard can copy it and give it back before it searches it.
+// How many bytes the space of a shard has: room for a header, and if the rings have other readers also for a block of
+// data, so that the shard can copy it and give it back before it searches it.
 fn space_size(shape: RingShape) -> u32
     ensures header { 65537 ≤ result }
     ensures block { 1 < shape.readers → shape.size ≤ result }
@@ -28,7 +28,7 @@ fn space_size(shape: RingShape) -> u32
     }
 }
 
-// So many spaces of so many bytes.
+// `count` spaces of `size` bytes.
 fn open_spaces(
     alloc: Global,
     count: usize,
@@ -48,7 +48,7 @@ fn open_spaces(
     Ok(spaces)
 }
 
-// So many empty hands.
+// `count` empty hands.
 fn open_hands<'a, I: Inputs, F: Files>(
     alloc: Global,
     count: u32,
@@ -63,8 +63,8 @@ fn open_hands<'a, I: Inputs, F: Files>(
     Ok(hands)
 }
 
-/// The space of a stage: the rings, of which the first header is sealed, the banks, a space for each, and the hands.
-/// All memory of a session is in it but that of its feeder and of its recorder.
+/// The space of a stage: the rings, with the first header sealed, the banks, a space for each, and the hands. It is all
+/// memory of a session except that of its feeder and of its recorder.
 #[derive(Drop)]
 pub struct StageSpace<'a, I, F> {
     hdu: Hdu,
@@ -78,8 +78,8 @@ pub struct StageSpace<'a, I, F> {
 impl<'a, I: Inputs, F: Files> StageSpace<'a, I, F> {
     ghost use Rattle.search_opening.specs.Space.{IsSpaceOf, banks_in, hands_in, AreStaged};
 
-    /// Takes all space: for rings of this shape, of which the header is sealed, for these banks, which may be none, and
-    /// for so many hands.
+    /// Takes all space, for rings of this shape, for these banks, of which there may be none, and for `hands` hands;
+    /// and seals the header.
     pub fn reserve(
         alloc: Global,
         banks: ArrayVec<Option<Bank>, MOST_SHARDS>,
@@ -105,7 +105,7 @@ impl<'a, I: Inputs, F: Files> StageSpace<'a, I, F> {
         })
     }
 
-    /// The stage of a session with this feeder, and this recorder, where there is one.
+    /// The stage of a session with this feeder, and with this recorder if there is one.
     pub fn stage(self, feeder: Feeder<'a, I>, recorder: Option<Recorder<'a, F>>) -> Stage<'a, I, F>
         requires { AreStaged I.told I.is_open F.is_open self feeder recorder }
         ensures on { StageOn I.told I.is_open F.is_open result }

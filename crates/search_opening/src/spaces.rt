@@ -24,8 +24,8 @@ use search_words::RunSettings;
 use std::alloc::Global;
 use std::thread::Threads;
 
-// A bank for each shard of a search, or none where files are recorded alone. At most as many threads as the session has
-// hands open them beside each other.
+// A bank for each shard of a search, or none if files are only recorded. At most as many threads as the session has
+// hands open them at the same time.
 fn take_banks<R: Threads + Sync>(
     rt: &R,
     alloc: Global,
@@ -48,7 +48,7 @@ fn take_banks<R: Threads + Sync>(
     }
 }
 
-// The space of a recorder, where the run records.
+// The space of a recorder, if the run records.
 fn take_recorder<'a>(
     alloc: Global,
     run: &RunSettings,
@@ -103,16 +103,18 @@ fn take_stage<'a, I: Inputs, F: Files>(
     StageSpace::reserve(alloc, banks, shape, header, run.hands)
 }
 
-/// All space of a run: of its session, and of its recorder, where it has one.
+/// All space of a run.
 pub struct Spaces<'a, I, F> {
+    /// The space of its session.
     pub stage: StageSpace<'a, I, F>,
+    /// The space of its recorder, if it has one.
     pub recorder: Option<RecorderSpace<'a>>,
 }
 
 impl<'a, I: Inputs, F: Files> Spaces<'a, I, F> {
     ghost use Rattle.search_opening.specs.Spaces.{AreSpaces};
 
-    /// Takes all space of a run under this first header. Transfer k begins at `offsets[k]`.
+    /// Takes all space of a run with this first header. Transfer k begins at OBS_OFFSET `offsets[k]`.
     pub(crate) fn reserve<R: Threads + Sync>(
         rt: &R,
         alloc: Global,

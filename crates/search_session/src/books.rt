@@ -27,7 +27,7 @@ fn both_of(slot: Option<ShardActor>) -> (Option<HduEnded>, Option<Bank>)
     }
 }
 
-// The passes and the banks of shards, at the same places.
+// The passes and the banks of shards, at their places.
 pub(crate) fn part_shards(
     mut shards: ArrayVec<Option<ShardActor>, MOST_SHARDS>,
 ) -> (
@@ -75,7 +75,7 @@ pub(crate) fn spectra_of(banks: &[Option<Bank>]) -> ArrayVec<u64, MOST_TRANSFERS
     spectra
 }
 
-// The first engine, which leaves its list.
+// Takes the first engine out of its list.
 fn first_in(engines: &mut ArrayVec<Option<Engine>, MOST_TRANSFERS>) -> Option<Engine>
     ensures { (slot : _) (rest : _) → engines.old.items ≡ slot ∷ rest
         → (result ≡ slot) × (engines.new.items ≡ rest) }
@@ -86,7 +86,7 @@ fn first_in(engines: &mut ArrayVec<Option<Engine>, MOST_TRANSFERS>) -> Option<En
     }
 }
 
-// The first engine of a bank, which leaves it.
+// Takes the first engine out of a bank.
 fn first_of(bank: &mut Bank) -> Option<Engine>
     ensures { (slot : _) (rest : _) → engines_of bank.old ≡ slot ∷ rest
         → (result ≡ slot) × (engines_of bank.new ≡ rest) }
@@ -104,7 +104,7 @@ fn book_of(slot: Option<Engine>) -> Option<Book>
     }
 }
 
-// The book of a bank's first engine, which leaves the bank.
+// Takes the first engine out of a bank, and answers its book.
 fn take_first(slot: &mut Option<Bank>) -> Option<Book>
     ensures { GivesFirst slot.old result slot.new }
 {
@@ -112,7 +112,7 @@ fn take_first(slot: &mut Option<Bank>) -> Option<Book>
     book_of(first_of(bank))
 }
 
-// The books of the first engines of all banks.
+// Takes the first engine out of each bank, and answers their books.
 fn take_firsts(banks: &mut [Option<Bank>]) -> ArrayVec<Option<Book>, MOST_SHARDS>
     requires { length banks.old ≤ 7 }
     ensures { FirstsGiven (length banks.old) banks.old result.items banks.new }

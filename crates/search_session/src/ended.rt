@@ -23,28 +23,33 @@ use ring_words::MOST_READERS;
 use search_model::{MOST_SHARDS, MOST_TRANSFERS};
 use session_readers::{RecordActor, ShardActor};
 
-/// How a session ended: the feeder's end; the books by transfer and then by shard, each `Some`; how many spectra each
-/// transfer has, where there is a shard; the recorder's end, where there is one; what went through the data ring. The
-/// inputs and the recorder's files come back.
+/// How a session ended. The inputs and the recorder's files come back.
 #[derive(Drop)]
 pub struct SessionEnd<'a, I, F> {
+    /// How the feeder ended.
     pub feed: FeedEnd,
+    /// The books, by transfer and then by shard. Each slot is `Some`.
     pub books: ArrayVec<ArrayVec<Option<Book>, MOST_SHARDS>, MOST_TRANSFERS>,
+    /// How many spectra of each transfer were searched, if there is a shard.
     pub spectra: ArrayVec<u64, MOST_TRANSFERS>,
+    /// How the recorder ended, if there is one.
     pub recorded: Option<RecordEnd>,
+    /// What went through the data ring.
     pub blocks: Finished,
+    /// The inputs.
     pub inputs: &'a mut I,
+    /// The recorder's files, if there is a recorder.
     pub files: Option<&'a mut F>,
 }
 
-// The parts of a recorder that ended, where there is one.
+// The parts of a recorder that ended, if there is one.
 struct RecorderParts<'a, F> {
     pass: Option<HduEnded>,
     end: Option<RecordEnd>,
     files: Option<&'a mut F>,
 }
 
-// Takes a recorder apart: its files come back.
+// Takes a recorder apart, and gives its files back.
 fn part_recorder<'a, F: Files>(recorder: Option<RecordActor<'a, F>>) -> RecorderParts<'a, F>
     ensures pass { result.pass ≡ option_map (λ x. x.pass) recorder.entry }
     ensures none { recorder.entry ≡ None → (result.end ≡ None) × (result.files ≡ None) }
@@ -74,7 +79,7 @@ fn part_recorder<'a, F: Files>(recorder: Option<RecordActor<'a, F>>) -> Recorder
     }
 }
 
-// The passes, and one more after them, where there is one.
+// The passes, and one more after them, if there is one.
 fn with_pass(
     mut passes: ArrayVec<Option<HduEnded>, MOST_READERS>,
     last: Option<HduEnded>,

@@ -6,13 +6,16 @@ use disk_feeder::{FeedEnd, FeedTurn, Feeder};
 use psr_base::Inputs;
 use std::thread;
 
-/// The feeder of a session, the pass by which it seals, how many turns it took, up to the greatest u64, and how it
-/// ended, once it has.
+/// The feeder of a session, and the pass by which it seals.
 #[derive(Drop)]
 pub struct FeedActor<'a, I> {
+    /// What reads the files.
     pub part: Feeder<'a, I>,
+    /// Its pass of both rings.
     pub pass: HduWriter,
+    /// How many turns it took. The count stops at the largest u64.
     pub turns: u64,
+    /// How it ended, once it has.
     pub end: Option<FeedEnd>,
 }
 

@@ -59,7 +59,7 @@ pub(crate) fn take_feeder<'a, I, F>(hands: &mut [Hand<'a, I, F>]) -> FeedActor<'
     feeder
 }
 
-// Takes the recorder out of its hand, where there is one.
+// Takes the recorder out of its hand, if there is one.
 pub(crate) fn take_recorder<'a, I, F>(hands: &mut [Hand<'a, I, F>]) -> Option<RecordActor<'a, F>>
     requires { 0 < length hands.old }
     ensures gives { GivesRecorder hands.old result hands.new }
@@ -77,7 +77,7 @@ fn take_from<I, F>(hands: &mut [Hand<'_, I, F>], place: usize, number: u32) -> S
     take_shard(hands[place].shards.as_mut_slice(), number)
 }
 
-// Takes so many shards out of their hands, in order.
+// Takes `count` shards out of their hands, in order.
 pub(crate) fn gather<I, F>(
     hands: &mut [Hand<'_, I, F>],
     count: usize,

@@ -22,17 +22,17 @@ const FEEDER: u32 = 0;
 /// The number by which a gate knows the recorder.
 const RECORDER: u32 = 8;
 
-/// How often a hand looks for a block or for room, unless it finds before that all hands wait in vain: together its
+/// How often a hand looks for a block or for room, unless it finds earlier that all hands wait in vain. Together its
 /// looks take longer than a turn of a shard should.
 const LOOKS: u32 = 100_000;
 
-/// After so many looks a hand sleeps before each further one. Until then a look lets other threads run, and takes about
-/// half a microsecond where none wants to: together longer than one of four shards took for a block of half a million
-/// bytes. So hands that wait for each other seldom sleep, and those that wait for a disk do.
+/// After this many looks a hand sleeps before each further one. Until then a look lets other threads run, and takes
+/// about half a microsecond if none wants to: together longer than one of four shards took for a block of half a
+/// million bytes. So hands that wait for each other seldom sleep, and those that wait for a disk do.
 const LOOKS_AWAKE: u32 = 1000;
 
-/// How many microseconds a hand sleeps then, beside what the system adds: a small part of the time that it waited
-/// before.
+/// How many microseconds a hand sleeps before such a look, and the system adds some: a small part of the time that it
+/// waited before.
 const NAP: u64 = 20;
 
 // Rests before a look of a hand that waits.
@@ -47,12 +47,15 @@ fn rest<C: Clock>(clock: &C, look: u32) {
 /// The actors that one thread drives. Each shard is `Some`.
 #[derive(Drop)]
 pub struct Hand<'a, I, F> {
+    /// The feeder, if this thread drives it.
     pub feeder: Option<FeedActor<'a, I>>,
+    /// The shards that this thread drives.
     pub shards: ArrayVec<Option<ShardActor>, MOST_SHARDS>,
+    /// The recorder, if this thread drives it.
     pub recorder: Option<RecordActor<'a, F>>,
 }
 
-// A turn of the feeder of a slot, unless it ended.
+// Takes a turn of the feeder of a slot, unless it ended.
 fn turn_feeder<I: Inputs, G: Gate>(slot: &mut Option<FeedActor<'_, I>>, hdu: &Hdu, gate: &G)
     requires { IfSome slot.old (FeedOn I.told I.is_open hdu.now) }
     ensures on { IfSome slot.new (FeedOn I.told I.is_open hdu.now) }
@@ -66,7 +69,7 @@ fn turn_feeder<I: Inputs, G: Gate>(slot: &mut Option<FeedActor<'_, I>>, hdu: &Hd
     feeder.turn(hdu);
 }
 
-// A turn of the shard of a slot, unless it ended.
+// Takes a turn of the shard of a slot, unless it ended.
 fn turn_shard<G: Gate>(slot: &mut Option<ShardActor>, hdu: &Hdu, gate: &G)
     requires { IfSome slot.old (ShardOn hdu.now) }
     ensures on { IfSome slot.new (ShardOn hdu.now) }
@@ -80,7 +83,7 @@ fn turn_shard<G: Gate>(slot: &mut Option<ShardActor>, hdu: &Hdu, gate: &G)
     shard.turn(hdu);
 }
 
-// A turn of each shard.
+// Takes a turn of each shard that has not ended.
 fn turn_shards<G: Gate>(slots: &mut [Option<ShardActor>], hdu: &Hdu, gate: &G)
     requires { ShardsOn hdu.now slots.old }
     ensures on { ShardsOn hdu.now slots.new }
@@ -91,7 +94,7 @@ fn turn_shards<G: Gate>(slots: &mut [Option<ShardActor>], hdu: &Hdu, gate: &G)
     }
 }
 
-// A turn of the recorder of a slot, unless it ended.
+// Takes a turn of the recorder of a slot, unless it ended.
 fn turn_recorder<F: Files, G: Gate>(slot: &mut Option<RecordActor<'_, F>>, hdu: &Hdu, gate: &G)
     requires { IfSome slot.old (RecordOn F.is_open hdu.now) }
     ensures on { IfSome slot.new (RecordOn F.is_open hdu.now) }
@@ -105,7 +108,7 @@ fn turn_recorder<F: Files, G: Gate>(slot: &mut Option<RecordActor<'_, F>>, hdu: 
     recorder.turn(hdu);
 }
 
-// Retires the recorder of a slot, where it ended.
+// Retires the recorder of a slot, if it ended.
 fn retire_recorder<F: Files>(slot: &mut Option<RecordActor<'_, F>>, hdu: &Hdu)
     requires { IfSome slot.old (RecordOn F.is_open hdu.now) }
     ensures on { IfSome slot.new (RecordOn F.is_open hdu.now) }
@@ -118,7 +121,7 @@ fn retire_recorder<F: Files>(slot: &mut Option<RecordActor<'_, F>>, hdu: &Hdu)
     let _none = mem::replace(slot, Some(recorder.retired(hdu)));
 }
 
-// Retires the shard of a slot, where it ended.
+// Retires the shard of a slot, if it ended.
 fn retire_shard(slot: &mut Option<ShardActor>, hdu: &Hdu)
     requires { IfSome slot.old (ShardOn hdu.now) }
     ensures on { IfSome slot.new (ShardOn hdu.now) }
@@ -175,7 +178,7 @@ fn shard_could_move(slot: &Option<ShardActor>, hdu: &Hdu) -> bool
     }
 }
 
-// Whether a turn of some shard may.
+// Whether a turn of some shard may read a block at this moment.
 fn shards_could_move(slots: &[Option<ShardActor>], hdu: &Hdu) -> bool
     requires { ShardsOn hdu.now slots.now }
 {
@@ -192,7 +195,7 @@ ghost use Rattle.search_session.specs.Hands.{SlotMoved, ShardsOn, ShardsMoved, S
 impl<'a, I: Inputs, F: Files> Hand<'a, I, F> {
     ghost use Rattle.search_session.specs.Hands.{HandOn, HandMoved, HandRetired, HandEnded};
 
-    /// No actor.
+    /// A hand without actors.
     pub fn empty() -> Hand<'a, I, F>
         ensures feeder { result.feeder ≡ None }
         ensures shards { result.shards.items ≡ [] }
@@ -205,7 +208,7 @@ impl<'a, I: Inputs, F: Files> Hand<'a, I, F> {
         }
     }
 
-    // A turn of each actor that has not ended.
+    // Takes a turn of each actor that has not ended.
     fn turn<G: Gate>(&mut self, hdu: &Hdu, gate: &G)
         requires { HandOn I.told I.is_open F.is_open hdu.now self.old }
         ensures on { HandOn I.told I.is_open F.is_open hdu.now self.new }
@@ -216,8 +219,8 @@ impl<'a, I: Inputs, F: Files> Hand<'a, I, F> {
         turn_recorder(&mut self.recorder, hdu, gate);
     }
 
-    // So many turns of each actor, fewer of one that ends. Before each but the first it waits for what others are about
-    // to seal or to clear, until it waited in vain. The hand stands at this place of its round.
+    // Takes `turns` turns of each actor, fewer of one that ends. Before each turn but the first it waits for what
+    // others are about to seal or to clear, until it has waited in vain. The hand is at place `place` of its round.
     pub(crate) fn drive<G: Gate, R: Threads + Clock>(
         &mut self,
         rt: &R,
@@ -251,7 +254,7 @@ impl<'a, I: Inputs, F: Files> Hand<'a, I, F> {
             || self.recorder_could_move(hdu)
     }
 
-    // Waits until an actor could move, unless all hands wait in vain. It answers whether an actor could move.
+    // Waits until an actor could move, unless all hands wait in vain. Answers whether an actor could move.
     fn waits_for_work<R: Threads + Clock>(
         &self,
         rt: &R,
@@ -270,7 +273,7 @@ impl<'a, I: Inputs, F: Files> Hand<'a, I, F> {
         found
     }
 
-    // The looks of a hand that is not at work.
+    // Looks for work, as a hand that is not at work does. Answers whether an actor could move.
     fn looks_for_work<R: Threads + Clock>(
         &self,
         rt: &R,
@@ -294,7 +297,7 @@ impl<'a, I: Inputs, F: Files> Hand<'a, I, F> {
         false
     }
 
-    // Retires each shard that ended, and the recorder where it ended.
+    // Retires each shard that ended, and the recorder if it ended.
     pub(crate) fn retire(&mut self, hdu: &Hdu)
         requires { HandOn I.told I.is_open F.is_open hdu.now self.old }
         ensures on { HandOn I.told I.is_open F.is_open hdu.now self.new }

@@ -1,15 +1,15 @@
-//! A session: a feeder, the shards of a search and a recorder take turns over two rings, in hands that run beside each
-//! other. There may be no shard, or no recorder.
+//! A session: a feeder, the shards of a search and a recorder take turns over two rings, in hands that run at the same
+//! time. There may be no shard, or no recorder. `run_session` drives a `Stage` to its end.
 //!
 //! Actor 0 is the feeder, 1 to 7 are the shards in order, and 8 is the recorder; actor a works in hand a modulo the
 //! number of hands. No turn waits. Between its turns a hand none of whose actors could move waits until one could,
 //! until it is found that all hands wait for each other, or until it has looked a hundred thousand times; after a wait
 //! in vain it waits no more in that round. A hand that has ended does not wait. Rounds of turns follow one another, the
-//! first ones longer and longer, until all have ended. Where threads are not to be had, the hands take turns in one
-//! thread. No call takes memory but what the system takes for a thread.
+//! first ones longer and longer, until all have ended. If threads can't be had, the hands take turns in one thread. No
+//! call takes memory except what the system takes for a thread.
 //!
-//! A lone session has no hands: one feeder and one shard take turns in the thread that drives it, over inputs that are
-//! lent to it at each turn.
+//! A lone session (`LoneSession`) has no hands: one feeder and one shard take turns in the thread that drives it, over
+//! inputs that are lent to it at each turn.
 #![tactic(auto)]
 
 mod books;

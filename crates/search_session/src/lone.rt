@@ -19,8 +19,8 @@ use crate::lone_laws::lone_sessions_end;
 use ring_words::MOST_READERS;
 
 /// A session of one feeder and one shard, without hands: they take turns one after another in the thread that drives
-/// it, so that a block that is sealed is read in the same turn. No turn waits. It holds no inputs: they are lent to it
-/// at each turn, always the same ones.
+/// it, so that a block that is sealed is read in the turn that sealed it. No turn waits. It holds no inputs: they are
+/// lent to it at each turn, always the same inputs.
 #[derive(Drop)]
 pub struct LoneSession<'a> {
     pub(crate) hdu: Hdu,
@@ -28,15 +28,18 @@ pub struct LoneSession<'a> {
     pub(crate) shard: ShardActor,
 }
 
-/// How a lone session ended: the feeder's end, the engines of its shard, and what went through the data ring.
+/// How a lone session ended.
 #[derive(Drop)]
 pub struct LoneEnd {
+    /// How the feeder ended.
     pub feed: FeedEnd,
+    /// The engines of the shard.
     pub bank: Bank,
+    /// What went through the data ring.
     pub blocks: Finished,
 }
 
-// A turn of a shard, unless it ended.
+// Takes a turn of a shard, unless it ended.
 fn turn_shard(shard: &mut ShardActor, hdu: &Hdu)
     requires on { ShardOn hdu.now shard.old }
     ensures on { ShardOn hdu.now shard.new }
@@ -48,7 +51,7 @@ fn turn_shard(shard: &mut ShardActor, hdu: &Hdu)
     shard.turn(hdu);
 }
 
-// The readers of rings that have one.
+// The readers of rings with one reader.
 fn one_reader(reader: HduEnded) -> ArrayVec<Option<HduEnded>, MOST_READERS>
     ensures { result.items ≡ Some reader ∷ [] }
 {
@@ -66,8 +69,8 @@ impl<'a> LoneSession<'a> {
     }
 
     /// Takes one turn: the feeder seals one block from the inputs, or finds the ring full, and then the shard reads one
-    /// block, each unless it ended. The gate knows the session as this actor, and counts the turns until both ended.
-    /// Answers whether both ended.
+    /// block, each unless it ended. `gate` is called with `actor` and the number of the turn, until both ended. Answers
+    /// whether both ended.
     pub fn turn<I: Inputs, G: Gate>(&mut self, inputs: &mut I, gate: &G, actor: u32) -> bool
         requires on { LoneOn (I.told inputs.old) self.old }
         requires file { HasFileOpen I.is_open inputs.old self.old }
@@ -86,7 +89,7 @@ impl<'a> LoneSession<'a> {
         self.has_ended()
     }
 
-    /// Takes so many turns, or fewer where both ended. Answers whether they did.
+    /// Takes `turns` turns, or fewer if both ended. Answers whether both did.
     pub fn drive<I: Inputs, G: Gate>(
         &mut self,
         inputs: &mut I,

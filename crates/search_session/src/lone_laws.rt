@@ -12,8 +12,8 @@ pub fn lone_turns_add<I: Inputs>()
     ensures { LoneTurnsAdd I.told I.is_calm I.faults }
 {}
 
-/// What a lone session came to, that took turns until both its feeder and its shard ended: the end of the walk of its
-/// files, or a fault of its inputs that they counted; and its engines have searched what went through.
+/// What a lone session came to that took turns until its feeder and its shard ended: the end of the walk of its files,
+/// or a fault of its inputs that they counted; and its engines have searched what went through.
 pub fn lone_sessions_end<I: Inputs>()
     ensures { LoneSessionsEnd I.told I.is_calm I.faults }
 {

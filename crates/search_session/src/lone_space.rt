@@ -31,8 +31,8 @@ fn open_rings(
     Ok((hdu, writer, readers))
 }
 
-/// The space of a lone session: the rings, of which the first header is sealed, their one reader, the bank of its
-/// shard, and the bytes that the shard reads headers to. All memory of the session is in it but that of its feeder.
+/// The space of a lone session: the rings, with the first header sealed, their one reader, the bank of its shard, and
+/// the space that the shard reads headers to. It is all memory of the session except that of its feeder.
 #[derive(Drop)]
 pub struct LoneSpace {
     hdu: Hdu,
@@ -43,7 +43,7 @@ pub struct LoneSpace {
 }
 
 impl LoneSpace {
-    /// Takes all space: for rings of this shape, which have one reader, and of which the header is sealed.
+    /// Takes all space, for rings of this shape, which have one reader, and seals the header.
     pub fn reserve(
         alloc: Global,
         bank: Bank,
@@ -68,7 +68,7 @@ impl LoneSpace {
         })
     }
 
-    /// The session of this space and a feeder that rests where its first headers were accepted.
+    /// The session of this space and a feeder at rest whose first headers were accepted.
     pub fn session<'a>(self, feeder: FeederSpace<'a>) -> LoneSession<'a>
         requires ready { (told : Told) × IsLoneReady told self feeder }
         ensures begins { (told : Told) → IsLoneReady told self feeder.entry

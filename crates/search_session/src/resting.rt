@@ -6,7 +6,7 @@ use disk_feeder::{FeedEnd, FeedTurn, FeederSpace};
 use psr_base::Inputs;
 use std::thread;
 
-/// The feeder of a session to which inputs are lent at each turn: as `FeedActor`, but for them.
+/// The feeder of a session to which inputs are lent at each turn; otherwise it is as `FeedActor`.
 #[derive(Drop)]
 pub(crate) struct RestingFeed<'a> {
     pub(crate) part: FeederSpace<'a>,
@@ -35,7 +35,7 @@ impl<'a> RestingFeed<'a> {
         }
     }
 
-    /// Takes one turn, unless it ended.
+    /// Takes one turn, unless the feeder ended.
     pub(crate) fn go_on<I: Inputs>(&mut self, inputs: &mut I, hdu: &Hdu)
         requires on { FeedOn I.told I.is_open hdu.now (feed_over inputs.old self.old) }
         ensures on { FeedOn I.told I.is_open hdu.now (feed_over inputs.new self.new) }

@@ -1,4 +1,4 @@
-//! A round: hands that run beside each other.
+//! A round: hands that run at the same time.
 ghost use Rattle.std.specs.Prelude.{◌↔◌, ◌<◌, All, IsTrue};
 ghost use Rattle.search_session.specs.Hands.{HandOn, HandMoved, HandRetired, HandEnded, EachMoved};
 
@@ -10,8 +10,8 @@ use psr_base::{Files, Inputs};
 use std::thread::{Threads, for_each_mut};
 use std::time::Clock;
 
-// Drives each hand, in so many threads at most: each of its actors takes so many turns, fewer only where it ends. It
-// answers whether no hand was found to wait for one that had no thread of its own.
+// Drives each hand, in at most `threads` threads: each of its actors takes `turns` turns, fewer only if it ends.
+// Answers whether no hand was found to wait for one that had no thread of its own.
 fn drive_hands<I: Inputs + Send, F: Files + Send, G: Gate + Sync, R: Threads + Clock + Sync>(
     rt: &R,
     hands: &mut [Hand<'_, I, F>],
@@ -40,11 +40,11 @@ fn drive_hands<I: Inputs + Send, F: Files + Send, G: Gate + Sync, R: Threads + C
     !watch.found_absent()
 }
 
-/// Drives each hand in a thread of its own: each of its actors takes so many turns, fewer only where it ends. No turn
+/// Drives each hand in a thread of its own: each of its actors takes `turns` turns, fewer only if it ends. No turn
 /// waits. Between its turns a hand none of whose actors could move waits until one could, until it is found that all
 /// hands wait for each other, or until it has looked a hundred thousand times; after a wait in vain it waits no more in
 /// that round. A hand that has waited for some looks sleeps between the further ones. A hand that has ended does not
-/// wait. Where no thread is to be had hands run one after another, and none waits for long.
+/// wait. If no thread can be had, hands run one after another, and none waits for long.
 pub fn round<'a, I: Inputs + Send, F: Files + Send, G: Gate + Sync, R: Threads + Clock + Sync>(
     rt: &R,
     hands: &mut [Hand<'a, I, F>],
@@ -61,7 +61,7 @@ pub fn round<'a, I: Inputs + Send, F: Files + Send, G: Gate + Sync, R: Threads +
     drive_hands(rt, hands, hdu, turns, gate, threads);
 }
 
-// Retires each shard that ended, and the recorder where it ended.
+// Retires each shard that ended, and the recorder if it ended.
 fn retire_ended<I: Inputs, F: Files>(hands: &mut [Hand<'_, I, F>], hdu: &Hdu)
     requires { All (HandOn I.told I.is_open F.is_open hdu.now) hands.old }
     ensures on { All (HandOn I.told I.is_open F.is_open hdu.now) hands.new }
@@ -73,8 +73,8 @@ fn retire_ended<I: Inputs, F: Files>(hands: &mut [Hand<'_, I, F>], hdu: &Hdu)
     }
 }
 
-/// One round, in so many threads at most, after which the writer is freed of each shard that ended, and of the recorder
-/// where it ended. It answers whether no hand was found to wait for one that had no thread of its own.
+/// Drives one round, in at most `threads` threads. After it the writer no longer waits for any shard that ended, nor
+/// for the recorder if it ended. Answers whether no hand was found to wait for one that had no thread of its own.
 pub(crate) fn round_and_retire<
     I: Inputs + Send,
     F: Files + Send,

@@ -33,42 +33,42 @@ use dada_recorder::recordings_end;
 use disk_feeder::{faults_leave, feeders_end, headers_are_first};
 use stream_model::{bytes_are_joined, ends_are_counted, streams_have_transfers};
 
-/// The first round has so many times the turns that a session is given, up to `MOST_TURNS`.
+/// The first round has this many times the turns that a session is given, up to `MOST_TURNS`.
 const FIRST: u32 = 16;
 
-/// Each later round has so many times the turns of the one before it. At the end of a round the ring runs empty and new
-/// threads begin, which takes some milliseconds.
+/// Each later round has this many times the turns of the one before it. At the end of a round the ring runs empty and
+/// new threads begin, which takes some milliseconds.
 const GROWTH: u32 = 8;
 
-/// From so many turns on rounds grow no longer: their ends cost little by then. A hand that waited in vain takes the
-/// rest of its turns without a wait, and at about a look's time each it is soon through.
+/// From this many turns on rounds grow no longer: their ends cost little by then. A hand that waited in vain takes the
+/// rest of its turns without a wait, each in about the time of a look, so it is soon through.
 const LONG_ROUND: u32 = 32_768;
 
-/// No round has more turns, however many a session is given.
+/// The largest number of turns of a round, whatever number a session is given.
 const MOST_TURNS: u32 = GROWTH * LONG_ROUND;
 
-/// Where some hand finds no thread of its own, so many rounds go on in one thread before threads are tried again.
+/// If some hand finds no thread of its own, this many rounds go on in one thread before threads are tried again.
 const SINGLE_ROUNDS: u32 = 1024;
 
-/// A round that tries whether threads can be had again has so many turns: hands wait before the second one alone.
+/// The number of turns of a round that tries whether threads can be had again: hands wait only before the second one.
 const TRIAL: u32 = 2;
 
-/// How the rounds of a session go on: how many turns the next round has whose hands run beside each other, and how many
-/// rounds come before it in which the hands take one turn each, one after another in one thread.
+/// How the rounds of a session go on. `turns` is the length of the next threaded round; `single` rounds come before it,
+/// in which the hands take one turn each, one after another in one thread.
 #[derive(Clone, Copy, Drop)]
 struct Pace {
     turns: u32,
     single: u32,
 }
 
-// The turns of the first round of a session that is given so many.
+// The length of the first round of a session that is given `turns` turns.
 fn first_round(turns: u32) -> u32
     ensures { result ≡ min MOST_TURNS (FIRST * turns) }
 {
     turns.saturating_mul(FIRST).min(MOST_TURNS)
 }
 
-// The turns of the round after one of so many.
+// The length of the round after one of `turns` turns.
 fn next_round(turns: u32) -> u32
     ensures short { turns < LONG_ROUND → result ≡ GROWTH * turns }
     ensures long { LONG_ROUND ≤ turns → result ≡ turns }
@@ -81,7 +81,8 @@ fn next_round(turns: u32) -> u32
 }
 
 impl Pace {
-    // The next round beside each other has so many turns. Where no thread can be had others come before it.
+    // The rounds from a threaded round of `turns` turns on. Without threads, `SINGLE_ROUNDS` rounds on one thread come
+    // first.
     fn new(turns: u32, has_threads: bool) -> Pace {
         Pace {
             turns,
@@ -89,7 +90,7 @@ impl Pace {
         }
     }
 
-    // The turns of the next round.
+    // The length of the next round, in turns.
     fn turns_now(&self) -> u32
         ensures beside { self.now.single ≡ 0 → result ≡ self.now.turns }
         ensures single { 0 < self.now.single → result ≡ min 1 self.now.turns }
@@ -101,15 +102,15 @@ impl Pace {
         }
     }
 
-    // How many threads so many hands have in the next round.
+    // How many threads `hands` hands have in the next round.
     fn threads_now(&self, hands: usize) -> usize
         ensures { 0 < result }
     {
         if self.single == 0 { hands.max(1) } else { 1 }
     }
 
-    // The rounds after the next one. Where a hand had no thread of its own in it, the hands go on in one thread for
-    // some rounds.
+    // The rounds after the next one. If a hand had no thread of its own in it, the hands go on in one thread for some
+    // rounds.
     fn after<R: Threads>(self, rt: &R, had_threads: bool) -> Pace {
         if self.single > 1 {
             return Pace {
@@ -128,12 +129,13 @@ impl Pace {
     }
 }
 
-// The rounds of a session of so many hands, the first of so many turns.
+// The rounds of a session of `hands` hands, the first of `turns` turns.
 fn first_pace<R: Threads>(rt: &R, hands: usize, turns: u32) -> Pace {
     Pace::new(turns, hands <= 1 || can_start_thread(rt))
 }
 
-// Rounds until all actors have ended, the first of so many turns. After each the writer is freed of those that ended.
+// Drives rounds until all actors have ended, the first of `turns` turns. After each round the writer no longer waits
+// for those that ended.
 fn run_rounds<I: Inputs + Send, F: Files + Send, G: Gate + Sync, R: Threads + Wait + Clock + Sync>(
     rt: &R,
     hands: &mut [Hand<'_, I, F>],
@@ -188,11 +190,11 @@ fn end_session<'a, I: Inputs, F: Files>(
 }
 
 /// Drives a stage to its end, and answers how each part ended. Rounds follow one another until all have ended, which no
-/// clause promises; with no turns they never do. The first has sixteen times so many turns, but at most 262144, and
-/// each later one eight times as many as the one before it, until one has 32768 or more; no clause of this call says
-/// how many, since no result rests on it. After each the writer is freed of the shards that ended, and of the recorder
-/// where it ended. Where a hand finds no thread of its own, the next 1024 rounds go on in one thread, with one turn
-/// each, and then threads are tried again.
+/// clause promises; with no turns they never do. The first round has `16 * turns` turns, but at most 262144. Each later
+/// one has eight times as many as the one before it, until one has 32768 or more. No clause of this call says how many
+/// turns there are, since no result rests on it. After each round the writer no longer waits for the shards that ended,
+/// nor for the recorder if it ended. If a hand finds no thread of its own, the next 1024 rounds go on in one thread,
+/// with one turn each, and then threads are tried again.
 pub fn run_session<
     'a,
     I: Inputs + Send,

@@ -64,7 +64,7 @@ fn recorder_of<'a, F: Files>(
     }
 }
 
-// The feeder comes to its hand, the first.
+// Puts the feeder into its hand, the first.
 fn place_feeder<'a, I, F>(hands: &mut [Hand<'a, I, F>], feeder: FeedActor<'a, I>)
     requires { 0 < length hands.old }
     ensures { TakesFeeder hands.old feeder.entry hands.new }
@@ -72,7 +72,7 @@ fn place_feeder<'a, I, F>(hands: &mut [Hand<'a, I, F>], feeder: FeedActor<'a, I>
     let _none = mem::replace(&mut hands[0].feeder, Some(feeder));
 }
 
-// A shard comes to its hand.
+// Puts a shard into its hand.
 fn place_shard<I, F>(hands: &mut [Hand<'_, I, F>], actor: usize, shard: ShardActor)
     requires some { 0 < length hands.old }
     requires room { All (λ h. length h.shards.items < 7) hands.old }
@@ -82,7 +82,7 @@ fn place_shard<I, F>(hands: &mut [Hand<'_, I, F>], actor: usize, shard: ShardAct
     hands[place].shards.push(Some(shard));
 }
 
-// The recorder comes to its hand.
+// Puts the recorder into its hand.
 fn place_recorder<'a, I, F>(hands: &mut [Hand<'a, I, F>], recorder: RecordActor<'a, F>)
     requires { 0 < length hands.old }
     ensures { TakesRecorder hands.old (8 % length hands.old) recorder.entry hands.new }
@@ -91,7 +91,7 @@ fn place_recorder<'a, I, F>(hands: &mut [Hand<'a, I, F>], recorder: RecordActor<
     let _none = mem::replace(&mut hands[place].recorder, Some(recorder));
 }
 
-// The recorder, where there is one, comes to its hand with the first of these readers.
+// Puts the recorder, if there is one, into its hand, with the first of these readers.
 fn place_any_recorder<'a, I, F: Files>(
     hdu: &Hdu,
     hands: &mut [Hand<'a, I, F>],
@@ -111,7 +111,7 @@ fn place_any_recorder<'a, I, F: Files>(
     place_recorder(hands, recorder_of(hdu, part, reader, number));
 }
 
-// The shards come to their hands, in order. The readers that are left are those of no shard.
+// Puts the shards into their hands, in order. The readers that are left are those of no shard.
 fn place_shards<I: Inputs, F: Files>(
     hdu: &Hdu,
     hands: &mut [Hand<'_, I, F>],
@@ -144,7 +144,7 @@ fn place_shards<I: Inputs, F: Files>(
     }
 }
 
-/// All actors come to their hands.
+/// Puts all actors into their hands.
 pub(crate) fn staff<'a, I: Inputs, F: Files>(stage: Stage<'a, I, F>) -> (Hdu, Vec<Hand<'a, I, F>>)
     requires { StageOn I.told I.is_open F.is_open stage }
     ensures hdu { result.0 ≡ stage.entry.hdu }

@@ -1,10 +1,10 @@
-//! Which hands of a round wait for each other in vain, and whether one waits for a thread that is not to be had. No
+//! Which hands of a round wait for each other in vain, and whether one waits for a thread that can't be had. No
 //! contract speaks of it, since no result rests on who waits.
 use std::sync::atomic::{AtomicBool, AtomicU64, AtomicUsize, Ordering};
 use std::thread::Threads;
 use std::{array, thread};
 
-/// The most hands of a session: one for each actor.
+/// The largest number of hands of a session: one for each actor.
 const HANDS: usize = 9;
 
 /// Stands for the looks of a hand that took all its turns.
@@ -13,15 +13,15 @@ const DONE: u64 = u64::MAX;
 /// Stands for the looks of a hand that has not begun.
 const UNBEGUN: u64 = u64::MAX - 1;
 
-/// After each so many looks a hand asks whether one more thread could be had, where it waits for a hand that has not
-/// begun. Where none can be, that hand has no thread of its own, and begins only when another one is done.
+/// Each time after this many looks a hand that waits for one that has not begun asks whether one more thread could be
+/// had. If none can be, that hand has no thread of its own, and begins only when another one is done.
 const LOOKS_BEFORE_ASKING: u32 = 1000;
 
-/// After so many looks such a hand is taken for absent, whatever is answered: what kept it from a thread is gone.
+/// After this many looks such a hand is taken for absent, whatever the answer is: what kept it from a thread is gone.
 const LOOKS_FOR_UNBEGUN: u32 = 10_000;
 
-/// So many looks in vain after a moment show that there was nothing to find at it: the first of them may have begun
-/// before that moment, the second did not.
+/// This many looks in vain after a moment show that there was nothing to find at that moment: the first of them may
+/// have begun before it, the second did not.
 const LOOKS_SINCE: u64 = 2;
 
 /// What the hands of a round tell each other: how many are at work, which began and neither wait nor are done; how
@@ -43,7 +43,7 @@ pub(crate) struct Note {
     looks: [u64; HANDS],
 }
 
-// The looks of a place before the first turn. Where there is no hand, it is done.
+// The looks of the hand at a place before the first turn. If there is no such hand, it counts as done.
 fn first_looks(place: usize, hands: usize) -> AtomicU64 {
     AtomicU64::new(if place < hands { UNBEGUN } else { DONE })
 }
@@ -60,7 +60,7 @@ pub(crate) fn can_start_thread<R: Threads>(rt: &R) -> bool {
 }
 
 impl Watch {
-    /// So many hands, none of which has begun.
+    /// A watch over `hands` hands, none of which has begun.
     pub(crate) fn new(hands: usize) -> Watch {
         Watch {
             at_work: AtomicUsize::new(0),
@@ -71,7 +71,7 @@ impl Watch {
         }
     }
 
-    /// The hand at a place begins.
+    /// Notes that the hand at a place begins.
     pub(crate) fn begin(&self, place: usize) {
         self.come_back();
         if let Some(looks) = self.looks.get(place) {
@@ -84,9 +84,9 @@ impl Watch {
         self.absent.load(Ordering::SeqCst)
     }
 
-    /// Finds from time to time, for a hand that has looked so often, whether the hands that have not begun have threads
-    /// of their own. All threads of the round are there while it waits: where one more can be had, these hands are
-    /// late.
+    /// Finds from time to time, for a hand that has looked `look` times, whether the hands that have not begun have
+    /// threads of their own. All threads of the round are there while it waits: if one more can be had, these hands are
+    /// only late.
     pub(crate) fn ask_for_unbegun<R: Threads>(&self, rt: &R, look: u32) {
         if look % LOOKS_BEFORE_ASKING != LOOKS_BEFORE_ASKING - 1 || !self.has_unbegun() {
             return;
@@ -115,18 +115,19 @@ impl Watch {
         }
     }
 
-    /// A hand begins to wait.
+    /// Notes that a hand begins to wait.
     pub(crate) fn leave(&self) {
         self.at_work.fetch_sub(1, Ordering::SeqCst);
     }
 
-    /// A hand waits no longer. It is at work before its return is counted: so no note has the new count and misses it.
+    /// Notes that a hand waits no longer. It is at work before its return is counted, so no note has the new count and
+    /// misses it.
     pub(crate) fn come_back(&self) {
         self.at_work.fetch_add(1, Ordering::SeqCst);
         self.returns.fetch_add(1, Ordering::SeqCst);
     }
 
-    /// The hand at a place is done.
+    /// Notes that the hand at a place is done.
     pub(crate) fn end(&self, place: usize) {
         if let Some(looks) = self.looks.get(place) {
             looks.store(DONE, Ordering::SeqCst);
@@ -134,9 +135,9 @@ impl Watch {
         self.leave();
     }
 
-    /// Counts a look in vain of the hand at a place. It answers whether all wait in vain: another hand found so, or
-    /// none was at work since this hand's note and each other one had nothing to find at it. Where one was at work, the
-    /// hand notes anew.
+    /// Counts a look in vain of the hand at a place. Answers whether all wait in vain: another hand found so, or none
+    /// was at work since this hand's note and each other one had nothing to find at it. If one was at work, the hand
+    /// notes anew.
     pub(crate) fn is_in_vain(&self, place: usize, note: &mut Option<Note>) -> bool {
         self.count_look(place);
         if self.stuck.load(Ordering::SeqCst) {
@@ -146,7 +147,7 @@ impl Watch {
             *note = self.note();
             return false;
         };
-        // The looks come first: who came back before them, and looks in vain again, is seen by its return.
+        // The looks come first: a hand that came back before them, and looks in vain again, is seen by its return.
         let others_wait = self.others_found_nothing(place, &noted);
         if !self.is_quiet_since(&noted) {
             *note = self.note();
@@ -158,7 +159,7 @@ impl Watch {
         others_wait
     }
 
-    // One look more of the hand at a place.
+    // Counts one more look of the hand at a place.
     fn count_look(&self, place: usize) {
         if let Some(looks) = self.looks.get(place) {
             looks.fetch_add(1, Ordering::SeqCst);
@@ -178,7 +179,8 @@ impl Watch {
         self.at_work.load(Ordering::SeqCst) == 0
     }
 
-    // A note, unless a hand is at work. The returns come first: who comes back after them is seen by its return.
+    // A note, unless a hand is at work. The returns come first: a hand that comes back after them is seen by its
+    // return.
     fn note(&self) -> Option<Note> {
         let returns = self.returns.load(Ordering::SeqCst);
         if !self.is_nobody_at_work() {

@@ -1,4 +1,4 @@
-// Runs as the lines of a table say them, and how they must end.
+// Runs as the lines of a table give them, and how they must end.
 use crate::files::{NO_FILE, fields_of, inputs_for, push_data, push_lines};
 use crate::running::{ENOUGH, Ended, Limits, NEVER, Program, run_past, words_of};
 use psr_base::{Inputs, MemFiles, MemInputs};
@@ -10,10 +10,10 @@ use std::test::Fail;
 use std::thread::Threads;
 use std::time::Clock;
 
-/// A run on each line: the words after those of the whole table; the numbers of the calls that fail, and how much room
-/// there is, where it is little; the status; the output and the line on the notes, with `;` for the end of a line; the
-/// files that are made, each with its data; and, of some, how many calls of the inputs were made, and how many blocks
-/// went through.
+/// A run on each line: its arguments after those of the whole table; the numbers of the calls that fail, and how much
+/// room there is, if it is little; the status; the output and the line on the notes, with `;` for the end of a line;
+/// the files that are made, each with its data; and, of some, how many calls of the inputs were made, and how many
+/// blocks went through.
 #[derive(Clone, Copy)]
 pub(crate) struct Table {
     pub(crate) program: Program,
@@ -106,7 +106,7 @@ const SECOND: &str = "2024-01-02-03:04:05_0000000000000004.000001.dada";
 
 const NEXT: &str = "2024-01-02-03:05:05_0000000000000000.000000.dada";
 
-// Whether these are a header and the data; `-` stands for a file without a header.
+// Whether `body` is a header and the data; `-` stands for a file without a header.
 fn has_data(alloc: Global, body: &[u8], data: &str) -> Result<bool, Fail> {
     if data == "-" {
         return Ok(body.is_empty());
@@ -116,7 +116,7 @@ fn has_data(alloc: Global, body: &[u8], data: &str) -> Result<bool, Fail> {
     Ok(body.len() >= 4096 && &body[4096..] == wanted.as_slice())
 }
 
-// Whether a file has the name and the data that `first 10 0 0 20` says.
+// Whether a file has the name and the data of `first 10 0 0 20`.
 fn is_file(alloc: Global, name: &str, body: &[u8], file: &str) -> Result<bool, Fail> {
     let (word, data) = file.split_once(' ').unwrap_or((file, ""));
     let whole_name = match word {
@@ -127,7 +127,7 @@ fn is_file(alloc: Global, name: &str, body: &[u8], file: &str) -> Result<bool, F
     Ok(name == whole_name && has_data(alloc, body, data)?)
 }
 
-// Whether these files were made alone, in this order.
+// Whether exactly these files were made, in this order.
 fn has_files(alloc: Global, made: &MemFiles, files: &str) -> Result<bool, Fail> {
     if files.is_empty() {
         return Ok(made.count() == 0);
@@ -187,7 +187,7 @@ fn check<R: Threads + Wait + Clock + Sync + Abort>(
     Ok(())
 }
 
-/// Runs the lines of the tables, each of which must end as it says.
+/// Runs the lines of the tables, each of which must end as the line says.
 pub(crate) fn check_all<R: Threads + Wait + Clock + Sync + Abort>(
     rt: &R,
     alloc: Global,

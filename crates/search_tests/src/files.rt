@@ -3,10 +3,10 @@ use psr_base::MemInputs;
 use std::alloc::Global;
 use std::test::Fail;
 
-// The lines of a header for which `@` stands. A `;` ends a line, here and below.
+// The lines of a header that `@` stands for. A `;` ends a line, here and below.
 const COMMON: &str = "HDR_SIZE 4096;NCHAN 2;NBIT 8;NPOL 1;NDIM 1;TSAMP 64;FREQ 1400;BW -200;";
 
-// A file on each line: its name; the lines of its header; its data, where 9*0 are nine zeros; how long it is without
+// A file on each line: its name; the lines of its header; its data, in which 9*0 are nine zeros; how long it is without
 // its data, if not 4096 bytes; and up to how many bytes a comment fills its text.
 const FILES: &str = "
 pulse        | @UTC_START 2024-01-02-03:04:05;OBS_OFFSET 0; | 10 0 0 20 0 0
@@ -60,7 +60,7 @@ full         | @UTC_START 2024-01-02-03:04:05;OBS_OFFSET 0; | 10 0 0 20 0 0 | 40
 overfull     | @UTC_START 2024-01-02-03:04:05;OBS_OFFSET 0; | 10 0 0 20 0 0 | 4096 | 4022
 ";
 
-/// The fields of a line of a table, which `|` parts. Those that it doesn't have are empty.
+/// The fields of a line of a table, divided by `|`. Missing ones are empty.
 pub(crate) fn fields_of(line: &'static str) -> [&'static str; 7] {
     let mut fields = [""; 7];
     for (i, field) in line.split('|').enumerate() {
@@ -121,7 +121,7 @@ fn bytes_in(alloc: Global, fields: [&'static str; 7]) -> Result<Vec<u8>, Fail> {
 /// A name that no run reads.
 pub(crate) const NO_FILE: &str = "";
 
-/// The bytes of the file of a name, where there is one.
+/// The bytes of the file of a name, if there is one.
 pub(crate) fn bytes_of(alloc: Global, name: &str) -> Result<Option<Vec<u8>>, Fail> {
     for line in FILES.lines() {
         let fields = fields_of(line);
@@ -132,7 +132,7 @@ pub(crate) fn bytes_of(alloc: Global, name: &str) -> Result<Option<Vec<u8>>, Fai
     Ok(None)
 }
 
-/// Inputs that hold the files that the words name, and of whose calls the one with this number fails.
+/// Inputs that hold the files that the arguments name, whose call with this number fails.
 pub(crate) fn inputs_for(alloc: Global, words: &str, failing: u64) -> Result<MemInputs, Fail> {
     let mut inputs = MemInputs::open(alloc, &[failing])?;
     inputs.put(NO_FILE, &[])?;

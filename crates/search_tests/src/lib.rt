@@ -1,7 +1,7 @@
-//! Tests of the programs: what words say, whole searches and recordings over objects in memory, and observations that
-//! are made. There is nothing else here: a crate with tests is proved twice, so those that cross crates stand together.
-//! The runs stand in tables of text, a run on each line, since each constant in code costs the prover more than a line
-//! of text.
+//! Tests of the programs: which settings arguments give, whole searches and recordings over objects in memory, and
+//! observations that are made. There is nothing else here: a crate with tests is proved twice, so those that cross
+//! crates stand together. The runs are tables of text, a run on each line, since each constant in code costs the prover
+//! more than a line of text.
 #![tactic(auto)]
 
 #[cfg(test)]

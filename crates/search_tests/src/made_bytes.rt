@@ -18,7 +18,7 @@ pub(crate) fn bytes_of(alloc: Global, spec: &MakeSpec) -> Option<Vec<u8>> {
 
 // The number, the channels, spectra, delay, period, height, bits and polarisations; how many bytes there are, and their
 // checksum. In the fourth pulses overlap, and a cell that several of them pass is raised once; then there are a pulse
-// that just reaches the foot, and one that doesn't; then no spectra, and the most channels.
+// that just reaches the foot, and one that doesn't; then no spectra, and the largest number of channels.
 const OBSERVATIONS: &str = "
 0 64 4096 64 256 2 8 1 | 266240 6ceaca1801464b76
 1 64 4096 64 256 2 8 1 | 266240 b854e17c1b218a47
@@ -73,13 +73,13 @@ fn checksum(bytes: &[u8]) -> u64 {
     sum
 }
 
-// Whether so many bytes have this checksum.
+// Whether the number and the checksum of bytes are as wanted.
 fn have_sum(bytes: &[u8], wanted: &str) -> bool {
     let (count, sum) = wanted.split_once(' ').unwrap_or((wanted, ""));
     count.parse::<usize>() == Ok(bytes.len()) && u64::from_str_radix(sum, 16) == Ok(checksum(bytes))
 }
 
-// Whether the observation of a line is made as it says.
+// Whether the observation of a line is made as the line says.
 fn is_made(alloc: Global, line: &str) -> bool {
     let (numbers, wanted) = line.split_once(" | ").unwrap_or((line, ""));
     let Some(spec) = spec_of(numbers) else {
@@ -115,7 +115,7 @@ fn has_shape(observation: &Observation, spec: &MakeSpec) -> bool {
         && observation.npol() == spec.npol
 }
 
-// Whether it begins a stream of falling bands between these edges, of 64 microseconds each.
+// Whether an observation begins a stream of falling bands between these edges, of 64 microseconds each.
 fn has_place(observation: &Observation) -> bool {
     observation.tsamp_ns() == 64000
         && observation.obs_offset() == 0
@@ -124,7 +124,7 @@ fn has_place(observation: &Observation) -> bool {
         && observation.edges().last() == Some(&1182000)
 }
 
-// Whether the header tells the observation of eight numbers.
+// Whether the header gives the observation of eight numbers.
 fn is_told(alloc: Global, numbers: &str) -> Result<bool, Fail> {
     let Some(spec) = spec_of(numbers) else {
         return Ok(false);

@@ -6,8 +6,9 @@ use std::alloc::Global;
 use std::fs;
 use std::test::Fail;
 
-// The words of a run; the call that fails, of the file's creation, its header, its data and its end, and the room,
-// where they matter; the status and the line to the notes; and how many bytes the file has then.
+// The arguments of a run, the program's name first; the call that fails, of the file's creation, its header, its data
+// and its end, and the room, if they matter; the status and the line to the notes; and how many bytes the file has
+// then.
 const RUNS: &str = "
 psr_make --spectra 0 a | | 0 | 4096
 psr_make a --spectra=0 --nbit 16 --npol 2 | | 0 | 4096
@@ -52,7 +53,7 @@ const SMALL: MakeSpec = MakeSpec {
     npol: 1,
 };
 
-// The fields of a line. Those that it doesn't have are empty.
+// The fields of a line. Missing ones are empty.
 fn fields_of(line: &'static str) -> [&'static str; 4] {
     let mut fields = [""; 4];
     for (i, field) in line.split('|').enumerate() {
@@ -80,7 +81,7 @@ fn list_of(alloc: Global, line: &str) -> Result<Vec<String>, Memory> {
     Ok(list)
 }
 
-// Makes an observation by the words of a line.
+// Makes an observation by the arguments of a line.
 fn run<F: Files>(alloc: Global, line: &str, files: &mut F) -> Result<Ended, Memory>
     requires { ¬ F.is_open files.old }
 {
@@ -106,7 +107,7 @@ fn ends_so(ended: &Ended, wanted: &str) -> bool {
 
 // ---- in memory
 
-// Whether one file stands there, named as the words say, of so many bytes, or none.
+// Whether there is one file, named as the arguments say, of `count` bytes, or none.
 fn is_left(files: &MemFiles, words: &str, count: &str) -> bool {
     if count == "no file" {
         return files.count() == 0;
@@ -130,7 +131,7 @@ fn is_front(alloc: Global, files: &MemFiles) -> bool {
     }
 }
 
-// Whether the run of a line ends, and leaves a file, as it says.
+// Whether the run of a line ends, and leaves a file, as the line says.
 fn is_met(alloc: Global, line: &'static str) -> Result<bool, Memory> {
     let [words, limits, wanted, count] = fields_of(line);
     let (call, room) = limits.split_once(' ').unwrap_or(("9", "5000"));
@@ -153,7 +154,7 @@ fn runs_end_and_leave_a_file_as_their_lines_say(rt: HostRuntime) {
 
 // ---- for real
 
-// Whether a run over the files of the system ends so.
+// Whether a run over the files of the system ends as wanted.
 fn ends_really(rt: &HostRuntime, words: &str, wanted: &str) -> bool {
     match run(rt.alloc(), words, &mut RealFiles::new(rt)) {
         Ok(ended) => ends_so(&ended, wanted),

@@ -52,7 +52,7 @@ pub(crate) struct Ended {
     pub(crate) text: String,
     pub(crate) notes: String,
     pub(crate) made: MemFiles,
-    /// How many blocks went through its data ring, or none where it had none.
+    /// How many blocks went through its data ring, or none if it had no ring.
     pub(crate) blocks: u64,
 }
 
@@ -63,7 +63,7 @@ fn push_words(alloc: Global, words: &mut Vec<String>, line: &str) -> Result<(), 
     Ok(())
 }
 
-/// The program's name, and the words of two lines.
+/// The program's name, and the arguments of two lines.
 pub(crate) fn words_of(alloc: Global, first: &str, more: &str) -> Result<Vec<String>, Fail> {
     let mut words = Vec::new(alloc);
     words.push(String::from_str(alloc, "psr")?)?;
@@ -79,7 +79,7 @@ fn text_of(alloc: Global, sink: &MemSink) -> Result<String, Fail> {
     }
 }
 
-/// Runs a program with these words over these inputs; a gate is told of each turn.
+/// Runs a program with these words over these inputs; a gate is called at each turn.
 pub(crate) fn run_past<G: Gate + Sync, R: Threads + Wait + Clock + Sync>(
     rt: &R,
     alloc: Global,

@@ -24,7 +24,7 @@ const WORDS: Table = Table {
 ",
 };
 
-// With what is left out by default.
+// With defaults for what is left out.
 const DEFAULTS: Table = Table {
     program: Search,
     words: "--mean 1 --sd 2",
@@ -40,7 +40,7 @@ pulse --snr 7 --widths 1 --max-delay 8 --chunk 1 --size 2 | | 0 | PULSE 1 1 0.10
 ",
 };
 
-// Of one transfer.
+// Searches of one transfer.
 const PULSES: Table = Table {
     program: Search,
     words: "--mean 1 --sd 2 --snr 7 --max-delay 1 --widths 1 --size 512",
@@ -105,7 +105,8 @@ at_two | | 0 | PULSE 1 1 0.104 1 30 3;END 1 0 3;
 ",
 };
 
-// Blocks, hands and shards change no text. With one turn the first round has 16, and the file `later` has 41 blocks.
+// Blocks, hands and shards change no text. With `--turns 1` the first round has 16 turns, and the file `later` has 41
+// blocks.
 const BLOCKS: Table = Table {
     program: Search,
     words: "--mean 1 --sd 2 --snr 7 --max-delay 1 --widths 1",
@@ -169,7 +170,8 @@ shorter_ramp | | 0 | PULSE 2 0 0.000 1 3 2;END 1 0 3;
 ",
 };
 
-// Of several transfers: all first headers are read, and the text of each is judged before what any of them says.
+// Searches of several transfers: all first headers are read, and the text of each is judged before what any of them
+// says.
 const TRANSFERS: Table = Table {
     program: Search,
     words: "--mean 1 --sd 2 --snr 7 --max-delay 1 --widths 1 --size 512",
@@ -197,7 +199,7 @@ pulse + next | out 0 | 10 | | sink fault; | | blocks 2
 ",
 };
 
-// Beside which files are recorded.
+// Searches during which files are recorded.
 const RECORDED: Table = Table {
     program: Search,
     words: "--mean 1 --sd 2 --snr 7 --max-delay 1 --record --file-size 4 --max-bytes 1000 --size 512",

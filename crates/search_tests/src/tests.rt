@@ -74,7 +74,7 @@ fn hands_run_beside_each_other(rt: HostRuntime) -> Result<(), Fail> {
     Ok(())
 }
 
-// Whether exactly these actors of a run take turns, and each turn is told with its number.
+// Whether exactly these actors of a run take turns, and the gate is called with each turn's number.
 fn take_turns<R: Threads + Wait + Clock + Sync>(
     rt: &R,
     alloc: Global,
@@ -156,7 +156,8 @@ fn text_of_recorded<R: Threads + Wait + Clock + Sync>(
 #[test]
 fn recorded_files_give_the_same_text(rt: HostRuntime) -> Result<(), Fail> {
     let mut inputs = inputs_for(rt.alloc(), "pulse next", NEVER)?;
-    // The words of a recording, those of a search of its files, and the text. Each records files of the ones before.
+    // The arguments of a recording, those of a search of its files, and the text. Each records files of the ones
+    // before.
     let cases = [
         ("--file-size 4 pulse", "0 1", TEXT),
         ("--file-size 6 0 1", "0", TEXT),
@@ -203,7 +204,7 @@ fn has_sizes(made: &MemFiles, sizes: &[usize]) -> bool {
     true
 }
 
-// Whether a search of these words ends so, with this text.
+// Whether a search with these arguments ends with this status and this text.
 fn searches_so<R: Threads + Wait + Clock + Sync>(
     rt: &R,
     alloc: Global,

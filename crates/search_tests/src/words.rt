@@ -1,9 +1,9 @@
-// Lines of words, and the settings that they say.
+// Lines of arguments, and the settings that they give.
 use psr_base::Memory;
 use search_words::{RunSettings, Settings, WordFault};
 use std::alloc::Global;
 
-// The words of a search, which a space parts, and whether they are accepted, refused, or out of an option's range.
+// The arguments of a search, divided by a space, and whether they are accepted, refused, or out of an option's range.
 const SEARCHES: &str = "
 --mean 1 --sd 2 a| accepted
 a --mean 1 --sd 2| accepted
@@ -58,7 +58,8 @@ a --mean 1 --sd 2| accepted
 --mean 1 --sd 2 a + b + c + d + e + f + g + h + i| out of FILE
 ";
 
-// The same of a recording.
+// The arguments of a recording, divided by a space, and whether they are accepted, refused, or out of an option's
+// range.
 const RECORDINGS: &str = "
 a| accepted
 --file-size 4 --max-bytes 0 --buffers 2 --size 1 a + b| accepted
@@ -70,7 +71,7 @@ a| accepted
 + a| out of FILE
 ";
 
-// The words of a line; a program's name stands before them.
+// The words of a line, with a program's name in front.
 fn words_of(alloc: Global, line: &str) -> Result<Vec<String>, Memory> {
     let mut words = Vec::new(alloc);
     words.push(String::from_str(alloc, "program")?)?;
@@ -80,7 +81,7 @@ fn words_of(alloc: Global, line: &str) -> Result<Vec<String>, Memory> {
     Ok(words)
 }
 
-// Why the words say no settings, of a search or of a recording, or none where they do.
+// Why the arguments give no settings, of a search or of a recording, or none if they do.
 fn fault_of(alloc: Global, line: &str, is_record: bool) -> Option<WordFault> {
     let Ok(words) = words_of(alloc, line) else {
         return Some(WordFault::Memory);
@@ -97,7 +98,7 @@ fn fault_of(alloc: Global, line: &str, is_record: bool) -> Option<WordFault> {
     }
 }
 
-// Whether the words of a line are judged as it says.
+// Whether the arguments of a line are judged as the line says.
 fn is_judged(alloc: Global, line: &str, is_record: bool) -> bool {
     let (words, wanted) = line.split_once('|').unwrap_or((line, ""));
     let wanted = wanted.trim();
@@ -125,7 +126,7 @@ fn words_are_judged(rt: HostRuntime) {
 
 // ---- values
 
-// Whether the search of settings has these values, of which some are the defaults.
+// Whether the search of settings has these values, some of which are the defaults.
 fn is_search(settings: &Settings) -> bool {
     let search = &settings.search;
     let is_ruled = search.mean == 1500 && search.sd == 2000 && search.snr == 712;
@@ -135,7 +136,7 @@ fn is_search(settings: &Settings) -> bool {
     is_ruled && is_wide && is_folded && is_cut && search.max_candidates == 65536
 }
 
-// Whether a session has.
+// Whether the session of settings has these values.
 fn is_session(run: &RunSettings) -> bool {
     let is_shaped = run.buffers == 4 && run.size == 524288 && run.hands == 1;
     let is_long = run.file_size == 1073741824 && run.max_bytes == 1099511627776;
@@ -151,7 +152,7 @@ fn has_files(run: &RunSettings) -> bool {
     are_named && run.starts.as_slice() == [0, 2].as_slice()
 }
 
-// Whether the words of a search give all values.
+// Whether the arguments of a search give all values.
 fn are_values(alloc: Global) -> bool {
     let line = "--mean 1.5 --sd 2 --snr 7.129 --record a b + c --turns 3";
     let Ok(words) = words_of(alloc, line) else {
@@ -165,7 +166,7 @@ fn are_values(alloc: Global) -> bool {
     }
 }
 
-// Whether the words of a recording give a size and else the defaults, and ask for it.
+// Whether the arguments of a recording give a size and otherwise the defaults, and ask for it.
 fn are_defaults(alloc: Global) -> bool {
     let Ok(words) = words_of(alloc, "--size 4096 a") else {
         return false;

@@ -29,7 +29,7 @@ pub(crate) struct Both {
 #[derive(Clone, Copy, PartialEq, Eq, Debug)]
 pub(crate) enum Seen {
     Wrote(Result<u64, WriteStop>),
-    /// With the first byte that was copied.
+    /// What a read answered, and the first byte that was copied.
     Read(Result<Taken, ReadStop>, u8),
     Cleared(u64),
     /// Whether there is room for a block, and whether there is one to read.
@@ -37,7 +37,7 @@ pub(crate) enum Seen {
     Nothing,
 }
 
-/// Data blocks of 8 bytes for one reader.
+/// The measures of a data ring with blocks of 8 bytes for one reader.
 pub(crate) fn shape(buffers: u32, max_blocks: u64) -> RingShape
     ensures { result
         ≡ record { buffers = buffers; size = 8; readers = 1; max_blocks = max_blocks } }
@@ -144,7 +144,7 @@ impl Both {
         hdu.finish(writer, readers)
     }
 
-    /// Retires the reader, and writes so many headers and blocks. Answers how many were sealed of each.
+    /// Retires the reader, and writes `count` headers and blocks. Answers how many were sealed of each.
     pub(crate) fn write_alone(self, header: &Header, count: u32) -> (u64, u64) {
         let Both {
             hdu,

@@ -63,7 +63,7 @@ impl Fed {
         Ok(())
     }
 
-    // Reads and clears the next block, where there is one: a header before the data of each transfer.
+    // Reads and clears the next block, if there is one: a header before the data of each transfer.
     fn drain(&mut self, hdu: &Hdu, reader: &mut HduReader, space: &mut [u8]) -> Result<(), Fail>
         requires ring { ReadsBoth hdu.now reader.old }
         requires room { 65537 ≤ length space.old }
@@ -85,7 +85,7 @@ impl Fed {
         Ok(())
     }
 
-    // The same after each third turn alone.
+    // Reads and clears the next block after each third turn.
     fn drain_after(
         &mut self,
         turn: u32,
@@ -104,7 +104,7 @@ impl Fed {
         self.drain(hdu, reader, space)
     }
 
-    // All that is left.
+    // Reads and clears all blocks that are left.
     fn drain_all(&mut self, hdu: &Hdu, reader: &mut HduReader, space: &mut [u8]) -> Result<(), Fail>
         requires ring { ReadsBoth hdu.now reader.old }
         requires room { 65537 ≤ length space.old }
@@ -141,7 +141,7 @@ fn accept_all<I: Inputs>(
     Ok(true)
 }
 
-// Takes a turn, and says whether the feeder ended.
+// Takes a turn, and answers whether the feeder ended.
 fn take_turn<I: Inputs>(
     feeder: &mut Feeder<'_, I>,
     hdu: &Hdu,
@@ -161,7 +161,7 @@ fn take_turn<I: Inputs>(
     Ok(matches!(turn, FeedTurn::Ended(_)))
 }
 
-// Takes turns until the feeder ended, at most so many; the reader reads after each third turn.
+// Takes turns until the feeder ended, up to a limit of turns. The reader reads after each third turn.
 fn take_turns<I: Inputs>(
     feeder: &mut Feeder<'_, I>,
     hdu: &Hdu,
@@ -186,7 +186,7 @@ fn take_turns<I: Inputs>(
     Ok(())
 }
 
-// Seals the first header, and says whether it did.
+// Seals the first header, and answers whether it did.
 fn write_first<I: Inputs>(feeder: &Feeder<'_, I>, hdu: &Hdu, pass: &mut HduWriter) -> bool
     requires writes { WritesBoth hdu.now pass.old }
     requires no_header { sealed_headers pass.old ≡ [] }
@@ -204,7 +204,7 @@ fn write_first<I: Inputs>(feeder: &Feeder<'_, I>, hdu: &Hdu, pass: &mut HduWrite
     }
 }
 
-/// The starts of transfers among so many files, where there are one or two.
+/// Whether these are the starts of one transfer or of two, among `count` files.
 pub(crate) fn are_starts(starts: &[u32], count: usize) -> bool
     ensures starts { IsTrue result → AreStarts starts.now count }
     ensures few { IsTrue result → length starts.now ≤ 2 }
@@ -247,8 +247,8 @@ fn give_back<'a, I: Inputs>(feeder: Feeder<'a, I>) -> &'a mut I
     feeder.close()
 }
 
-/// The names of the files that are read, the starts of transfers, the size of a block, the most data bytes, the calls
-/// that fail, and whether bytes come one at a time.
+/// The names of the files that are read, the starts of transfers, the size of a block, the limit of data bytes, the
+/// calls that fail, and whether bytes come one at a time.
 #[derive(Clone, Copy)]
 pub(crate) struct Case<'a> {
     pub(crate) names: &'a [String],
@@ -259,7 +259,7 @@ pub(crate) struct Case<'a> {
     pub(crate) slowly: bool,
 }
 
-// Whether a feeder takes these.
+// Whether a feeder takes the settings of a case.
 fn is_fed(case: Case<'_>) -> bool
     ensures names { IsTrue result → length case.entry.names.now ≤ 65535 }
     ensures starts { IsTrue result → AreStarts case.entry.starts.now (length case.entry.names.now) }

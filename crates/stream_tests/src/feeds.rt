@@ -8,13 +8,13 @@ use obs_plan::{Key, ObsFault};
 use std::alloc::Global;
 use std::test::Fail;
 
-// The names that are read, with `+` before a second transfer; the size of a block, the most data bytes and the call
-// that fails; how the feeder ends, or begins; its trace; and its turns. Where no call fails, the same comes of bytes
-// that are read whole and of those that come one at a time.
+// The names that are read, with `+` before a second transfer; the size of a block, the limit of data bytes and the call
+// that fails; how the feeder ends, or begins; its trace; and its turns. If no call fails, bytes that come one at a time
+// give what bytes that are read whole give.
 //
-// A file's first calls open it and read its header, in two pieces where that is longer than 4096 bytes. The first files
-// of two transfers are opened again: two blocks are full, the third is empty; then one is full, and of the last one
-// byte is read before its end is.
+// A file's first calls open it and read its header, in two pieces if that is longer than 4096 bytes. The first files of
+// two transfers are opened again: two blocks are full, the third is empty; then one is full, and one byte of the last
+// is read before its end is.
 //
 // The rings have two buffers, and the reader reads after each third turn, the header first. In the last line the block
 // that found no room is sealed once there is some, and nothing is read for it again.
@@ -79,7 +79,7 @@ struct Numbers {
 }
 
 impl Numbers {
-    // The numbers that are named in `size 3, call 9`, or none where one has another name.
+    // The numbers that are named in `size 3, call 9`, or none if one has another name.
     fn of(settings: &'static str) -> Option<Numbers> {
         let mut numbers = Numbers {
             size: 3,
@@ -149,7 +149,7 @@ fn end_of(word: &str, number: u32) -> FeedEnd {
     }
 }
 
-// Whether a feeder begins or ends so.
+// Whether a feeder begins or ends as the line says.
 fn ends_so(fed: &Fed, wanted: &'static str) -> bool {
     let short = FeedFault::BadHeader {
         file: 1,
@@ -164,12 +164,12 @@ fn ends_so(fed: &Fed, wanted: &'static str) -> bool {
     }
 }
 
-// Whether a text is wanted, or none is.
+// Whether a text is the one that is wanted, or none is wanted.
 fn is_so(text: &[u8], wanted: &str) -> bool {
     wanted.is_empty() || text == wanted.as_bytes()
 }
 
-// Whether the files of a line are fed as it says.
+// Whether the files of a line are fed as the line says.
 fn is_met(alloc: Global, line: &'static str) -> Result<bool, Fail> {
     let [names, settings, end, trace, turns] = fields_of(line);
     let Some(numbers) = Numbers::of(settings) else {

@@ -19,7 +19,7 @@ long | HDR_SIZE 8192 | 8192 | uvw
 short | | 100
 ";
 
-/// A file with a line of its own before those of all headers, a header of so many bytes, and data.
+/// A file with a line of its own before those of all headers, a header of `size` bytes, and data.
 pub(crate) fn file_of(alloc: Global, line: &str, size: usize, data: &str) -> Result<Vec<u8>, Fail> {
     let mut bytes = Vec::from_slice(alloc, line.as_bytes())?;
     bytes.push(b'\n')?;
@@ -45,7 +45,7 @@ pub(crate) fn put_files(alloc: Global, inputs: &mut MemInputs) -> Result<(), Fai
     Ok(())
 }
 
-/// The names of a line, in order, where `+` stands between transfers.
+/// The names of a line, in order, with `+` between transfers.
 pub(crate) fn names_of(alloc: Global, line: &str) -> Result<Vec<String>, Fail> {
     let mut list = Vec::new(alloc);
     for name in line.split_whitespace() {

@@ -15,7 +15,7 @@ use std::test::Fail;
 // Each file is a transfer.
 const STARTS: &[u32] = &[0, 1];
 
-// Begins to feed two files in memory, and answers how many bytes were read of each. The inputs tell the same: both were
+// Begins to feed two files in memory, and answers how many bytes were read of each. The inputs say so too: both were
 // opened, in order, and read so far; no end was seen, and nothing else was opened.
 fn begin_two(alloc: Global, inputs: &mut MemInputs, names: &[String]) -> Option<(usize, usize)>
     requires two { length names.now ≡ 2 }
@@ -43,7 +43,8 @@ fn begin_two(alloc: Global, inputs: &mut MemInputs, names: &[String]) -> Option<
     }
 }
 
-// The same of a file that has a header of 4096 bytes and one that has a header of 8192.
+// Begins to feed a file with a header of 4096 bytes and one with a header of 8192, and answers how many bytes were read
+// of each.
 fn begin_both(alloc: Global) -> Result<Option<(usize, usize)>, Fail> {
     let mut inputs = MemInputs::open(alloc, &[])?;
     let six = file_of(alloc, "", 4096, "abcdef")?;

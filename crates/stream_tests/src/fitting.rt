@@ -21,7 +21,7 @@ UTC_START 2024-01-02-03:04:0x; | 1 1 | bad_time
 UTC_START 9999-99-99-99:99:99; | 1 1 | fits
 ";
 
-// Lines of this many bytes, the last of which is a comment, where they are fewer.
+// Lines that a comment at their end fills to `len` bytes, if they are fewer.
 fn filled(alloc: Global, lines: &str, len: usize) -> Result<String, AllocError> {
     let mut text = String::new(alloc);
     for sign in lines.chars() {
@@ -37,7 +37,7 @@ fn filled(alloc: Global, lines: &str, len: usize) -> Result<String, AllocError> 
     Ok(text)
 }
 
-// Whether the header of a line is answered so.
+// Whether the header of a line is answered as the line says.
 fn is_answered(alloc: Global, line: &'static str) -> Result<bool, Fail> {
     let [lines, numbers, wanted, len, ..] = fields_of(line);
     let (file_size, max_bytes) = numbers.split_once(' ').unwrap_or((numbers, ""));

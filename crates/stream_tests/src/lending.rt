@@ -48,7 +48,7 @@ fn keep(bytes: &[u8], mark: Mark) -> Kept
 }
 
 impl Both {
-    // Lends the next block to a part, if there is one, and clears it.
+    // Lends the next block to part `part`, if there is one, and clears it.
     fn lend(&mut self, shelf: &mut Shelf, part: usize) -> Option<Taken>
         requires { part < 2 }
     {

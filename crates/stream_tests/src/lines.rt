@@ -1,7 +1,7 @@
-// Tables as text, a case on each line, whose fields `|` parts, and recordings in words.
+// Tables as text, a case on each line, with fields divided by `|`, and recordings in words.
 use dada_recorder::{RecordEnd, RecordFault};
 
-/// The fields of a line. Those that it doesn't have are empty.
+/// The fields of a line. Missing ones are empty.
 pub(crate) fn fields_of(line: &'static str) -> [&'static str; 5] {
     let mut fields = [""; 5];
     for (i, field) in line.split('|').enumerate() {

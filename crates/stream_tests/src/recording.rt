@@ -52,7 +52,7 @@ pub(crate) fn header_of(alloc: Global, lines: &str) -> Result<Header, Fail> {
     }
 }
 
-// Writes the full blocks of a transfer's bytes, and says where the rest begins.
+// Writes the full blocks of a transfer's bytes, and answers where the rest begins.
 fn write_full(hdu: &Hdu, pass: &mut HduWriter, bytes: &[u8], size: usize) -> usize
     requires writes { WritesBoth hdu.now pass.old }
     requires size { (data_shape hdu.now).size ≡ size }
@@ -71,7 +71,7 @@ fn write_full(hdu: &Hdu, pass: &mut HduWriter, bytes: &[u8], size: usize) -> usi
     at
 }
 
-// Writes the last block of a transfer, where it fits, or gives the stream up.
+// Writes the last block of a transfer, if it fits, or gives the stream up.
 fn write_last(hdu: &Hdu, pass: &mut HduWriter, rest: &[u8], size: usize, last: Mark)
     requires writes { WritesBoth hdu.now pass.old }
     requires size { (data_shape hdu.now).size ≡ size }
@@ -137,7 +137,7 @@ fn is_fresh(reader: &HduReader) -> bool
     reader.blocks.cleared() == 0
 }
 
-// Takes a turn, and says how the recorder ended, if it did.
+// Takes a turn, and answers how the recorder ended, if it did.
 fn take_turn<F: Files>(
     recorder: &mut Recorder<'_, F>,
     hdu: &Hdu,
@@ -164,7 +164,7 @@ fn take_turn<F: Files>(
     }
 }
 
-// Takes turns until the recorder ended, at most so many.
+// Takes turns until the recorder ended, up to a limit of turns.
 fn take_turns<F: Files>(
     recorder: &mut Recorder<'_, F>,
     hdu: &Hdu,
@@ -198,7 +198,7 @@ fn are_offsets(offsets: &[u64]) -> bool
     }
 }
 
-/// Records what a case writes, and says how that ended. One turn comes before anything is written.
+/// Records what a case writes, and answers how that ended. One turn comes before anything is written.
 pub(crate) fn record<F: Files>(
     alloc: Global,
     files: &mut F,

@@ -10,7 +10,7 @@ use std::fs;
 use std::test::Fail;
 
 // The data, and those of a second transfer after `+`; the numbers that differ from those of the sample; how the
-// recording ends; and the files, each with its data, where `-` stands for a file without a header.
+// recording ends; and the files, each with its data; `-` is a file without a header.
 const RECORDINGS: &str = "
 abcdef | | whole 2 | first abcd, second ef
 abcdef | size 1 | whole 2 | first abcd, second ef
@@ -141,7 +141,7 @@ fn ends_so(end: RecordEnd, wanted: &'static str) -> bool {
     word == wanted && number == u64::from(wanted_number.parse::<u32>().unwrap_or(0))
 }
 
-// Whether these are a header of 4096 bytes and the data.
+// Whether `body` is a header of 4096 bytes and the data.
 fn has_data(body: &[u8], data: &str) -> bool {
     if data == "-" {
         return body.is_empty();

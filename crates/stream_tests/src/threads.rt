@@ -1,4 +1,4 @@
-// One writer and one reader in threads of their own. Each gives up after so many tries, so that the test ends.
+// One writer and one reader in threads of their own. Each gives up after a number of tries, so that the test ends.
 ghost use Rattle.std.specs.Prelude.{◌≡◌, ◌≤◌, length};
 ghost use Rattle.dada_hdu.specs.Passes.{data_shape, WritesBoth, ReadsBoth};
 
@@ -13,7 +13,7 @@ const TRIES: u32 = 50_000_000;
 
 const BLOCKS: u64 = 1000;
 
-// A header, and then blocks of which each has its number in it.
+// Writes a header, and then blocks, each of which has its number in it.
 fn write_all(hdu: &Hdu, mut writer: HduWriter, header: &Header) -> HduWriter
     requires size { (data_shape hdu.now).size ≡ 8 }
     requires ring { WritesBoth hdu.now writer }
@@ -62,7 +62,7 @@ fn read_block(hdu: &Hdu, reader: &mut HduReader) -> Option<bool>
     Some(taken.used == 8 && into == number.to_le_bytes())
 }
 
-// Reads the header and the blocks, and says whether each block was the right one.
+// Reads the header and the blocks, and answers whether each block was the right one.
 fn read_all(hdu: &Hdu, mut reader: HduReader, into: &mut [u8]) -> (HduReader, bool)
     requires size { (data_shape hdu.now).size ≡ 8 }
     requires room { 65537 ≤ length into.old }

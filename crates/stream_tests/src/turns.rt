@@ -9,14 +9,14 @@ enum Step {
     WriteHeader,
     ReadHeader,
     ClearHeader,
-    /// A full block of this byte.
+    /// Writes a full block of this byte.
     Write(u8),
-    /// A last block of two bytes.
+    /// Writes a last block of two bytes.
     End,
     Read,
     Clear,
     Look,
-    /// Detach, and attach again.
+    /// Detaches the reader, and attaches it again.
     Again,
 }
 
@@ -47,7 +47,7 @@ fn full(cleared: u64) -> Seen {
     Seen::Wrote(Err(WriteStop::Full { reader: 0, cleared }))
 }
 
-// The number of the first step that answered otherwise, or the number of steps.
+// Plays the steps, and answers the number of the first that answered otherwise, or how many there are.
 fn play_all(mut both: Both, header: &Header, steps: &[(Step, Seen)]) -> (Both, usize) {
     for (i, (step, wanted)) in steps.iter().enumerate() {
         let (next, seen) = play(both, header, *step);

@@ -8,23 +8,28 @@ use ring_ends::Finished;
 use run_stop::Stop;
 use search_model::{MOST_SHARDS, MOST_TRANSFERS};
 
-/// What a run found: the observation of each transfer; how the feeder ended; the books by transfer and then by shard,
-/// and how many spectra each transfer has, where files are searched; how the recorder ended, where there is one; and
-/// what went through the data ring. Each slot is `Some`.
+/// What a run found. Each slot is `Some`.
 #[derive(Drop)]
 pub struct Found {
+    /// The observation of each transfer, in order.
     pub observations: ArrayVec<Option<Observation>, MOST_TRANSFERS>,
+    /// How the feeder ended.
     pub feed: FeedEnd,
+    /// The books, by transfer and then by shard, if files are searched.
     pub books: ArrayVec<ArrayVec<Option<Book>, MOST_SHARDS>, MOST_TRANSFERS>,
+    /// How many spectra of each transfer were searched, if files are searched.
     pub spectra: ArrayVec<u64, MOST_TRANSFERS>,
+    /// How the recorder ended, if there is one.
     pub recorded: Option<RecordEnd>,
+    /// What went through the data ring.
     pub blocks: Finished,
 }
 
-/// What a program came to: its stop, or none where it went to its end; and what went through its data ring, where there
-/// was one.
+/// What a program came to.
 #[derive(Drop)]
 pub struct ProgramEnd {
+    /// Why it stopped early, or `None` if it went to its end.
     pub stop: Option<Stop>,
+    /// What went through its data ring, if there was one.
     pub blocks: Option<Finished>,
 }

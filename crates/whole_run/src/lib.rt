@@ -1,5 +1,5 @@
-//! A run of either program, from its settings to the end of its session: the run is opened, and its session is
-//! driven to its end.
+//! A run of psr_search or psr_record, from its settings to the end of its session: `drive` opens the run, and drives
+//! its session to its end.
 #![tactic(auto)]
 
 mod found;

@@ -179,7 +179,7 @@ fn without_recorder<
     found_without(observations, end, files)
 }
 
-/// Drives the session of a run of which all is opened.
+/// Drives the session of an opened run.
 pub(crate) fn go_on<
     'a,
     I: Inputs + Send,

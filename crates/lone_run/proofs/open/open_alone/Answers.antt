@@ -1,11 +1,7 @@
-use Rattle.std.proofs.Common.{◌≡◌, Result, Ok, Err, OnOk, refl, sym, subst}
-use Rattle.search_words.specs.Settings.{run_seen, settings_seen}
+use Rattle.std.proofs.Common.{Result, Ok, Err, OnOk, sym, subst}
+use Rattle.search_words.specs.Settings.{settings_seen}
 use Rattle.disk_feeder.specs.Feeder.{FeederRead}
-use Rattle.run_stop.specs.declared.stop.Stop.{Stop}
 use Rattle.run_stop.specs.Runs.{RecordingAlone, Alone}
-use Rattle.search_opening.specs.Early.{LeavesEarly}
-use Rattle.lone_run.specs.declared.stop.LoneStop.{LoneStop}
-use Rattle.lone_run.specs.declared.stop.LoneStop.TheVariants.{Run}
 use Rattle.lone_run.proofs.Opening.{begin_stops, stops_before_reading, leaves_opening}
 use Rattle.lone_run.proofs.Results.{map_err}
 use Rattle.lone_run.proofs.open.open_alone.Goals as goal
@@ -20,7 +16,7 @@ returns-in-Ok-clause-stopped g c =
 
 pub returns-in-Err-clause-stopped : goal.returns-in-Err-clause-stopped
 returns-in-Err-clause-stopped g c =
-    begin_stops (g.S.Scoping.scopes c.args.scoping.now) (g.S.Scoping.refuses c.args.scoping.now)
+    begin_stops (g.S.Scoping.accepts c.args.scoping.now) (g.S.Scoping.refuses c.args.scoping.now)
     (settings_seen c.args.settings.now) (g.I.Inputs.told c.args.feeder.now.inputs.now) c.in-Err.stop
     c.in-Err.ensures.kind (c.in-Err.ensures.stopped RecordingAlone tt).kind
     (λ lone. c.in-Err.ensures.stopped (Alone lone) c.args.settings.now.search)
@@ -42,23 +38,8 @@ returns-in-Ok-clause-begins g c =
     (c.open_begun.ensures.reads_on old (told c.begin_run.new.feeder.inputs.now) c.in-Ok.ensures.begun.reads))
 
 pub returns-in-Ok-clause-leaves : goal.returns-in-Ok-clause-leaves
-returns-in-Ok-clause-leaves g c = λ stop is.
+returns-in-Ok-clause-leaves g c =
     leaves_opening g.I.Inputs.told (g.I.Inputs.is_calm c.args.feeder.now.inputs.now)
     (settings_seen c.args.settings.now) c.args.feeder.now.inputs.now c.begin_run.new.feeder.inputs.now
-    c.open_begun.new.feeder.inputs.now c.open_begun.result stop c.in-Ok.ensures.begun.only c.open_begun.ensures.inputs
-    c.open_begun.ensures.readable is
-
--- the stop of an answer
-one_stop : {T F : Type 0} (r : Result T (LoneStop F)) (a b : Stop) → r ≡ Err (Run a) → r ≡ Err (Run b) → a ≡ b
-one_stop r a b one other = cc
-
-pub returns-in-Err-clause-leaves : goal.returns-in-Err-clause-leaves
-returns-in-Err-clause-leaves g c = λ stop is.
-    let told = g.I.Inputs.told in
-    let s = run_seen c.args.settings.now.run in
-    let old = c.args.feeder.now in
-    let new = c.begin_run.new.feeder in
-    let Leaves : Stop → Type 0 = λ x. LeavesEarly s (g.I.Inputs.is_calm old.inputs.now) (told old.inputs.now)
-    (told new.inputs.now) x in
-    subst Leaves (one_stop _ _ _ refl is)
-    c.in-Err.ensures.leaves
+    c.open_begun.new.feeder.inputs.now c.open_begun.result c.in-Ok.ensures.begun.only c.open_begun.ensures.inputs
+    c.open_begun.ensures.readable

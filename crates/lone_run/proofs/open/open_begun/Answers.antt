@@ -22,6 +22,7 @@ returns-in-Err-clause-stopped g c =
     (begun.plan.headers ∙ c.requires.one.transfer) in
     bank_stops g.I.Inputs.told g.I.Inputs.is_open _ _ (settings_seen c.args.settings.now) c.args.feeder.now
     c.args.observations.items only.0 c.in-Err.stop c.requires.one.transfer begun only.1
+    (c.bank_for.ensures.range only.0 (c.as_slice.ensures.value ∙ only.1))
     (c.in-Err.ensures.stopped only.0 (c.as_slice.ensures.value ∙ only.1))
 
 pub only_one-requires : goal.only_one-requires
@@ -35,7 +36,7 @@ returns-in-Err-clause-readable g c = λ same.
     let begun = c.requires.begun in
     let only = only_observed (headers_of c.args.feeder.now) c.args.observations.items begun.observed
     (begun.plan.headers ∙ c.requires.one.transfer) in
-    bank_readable (g.S.Scoping.scopes c.args.scoping.now) (g.S.Scoping.refuses c.args.scoping.now)
+    bank_readable (g.S.Scoping.accepts c.args.scoping.now) (g.S.Scoping.refuses c.args.scoping.now)
     c.args.settings.now.search only.0 c.in-Err.stop
     (c.in-Err.ensures.stopped only.0 (c.as_slice.ensures.value ∙ only.1)) (inside _ _ _ refl same)
   where

@@ -1,20 +1,23 @@
-use Rattle.std.proofs.Common.{rules, ◌≡◌, sym, ◌∙◌, subst}
+use Rattle.std.proofs.Common.{rules, ◌≡◌, sym, subst}
+use Rattle.std.specs.Prelude.{IfErr}
 use Rattle.search_words.specs.Settings.{settings_seen}
-use Rattle.run_stop.specs.Outcomes.{blocks_of, ReadsNoData, LeavesAtFault}
+use Rattle.run_stop.specs.Lone.{LoneSearch}
+use Rattle.run_stop.specs.Outcomes.{blocks_of, LeavesAtFault}
 use Rattle.run_stop.specs.Runs.{Alone}
 use Rattle.search_opening.specs.Settings.{ForWords}
 use Rattle.lone_run.specs.declared.found.LoneFound.{LoneFound}
-use Rattle.lone_run.specs.Stops.{FailsReading}
+use Rattle.lone_run.specs.Stops.{FailsReading, ReadsBefore}
 use Rattle.lone_run.proofs.run.drive_alone.Goals as goal
 
 pub returns-clause-unread : goal.returns-clause-unread
-returns-clause-unread g c = λ want lone.
+returns-clause-unread g c =
     let told = g.I.Inputs.told in
     let s = settings_seen c.args.settings.now in
-    let Reads : _ → Type 0 = λ i. ForWords (Alone lone) s
-    (λ words. ReadsNoData (Alone lone) words (told c.args.inputs.now) (told i)) in
+    let Reads : _ → _ → Type 0 = λ r i. IfErr r (λ stop. (lone : LoneSearch) → ForWords (Alone lone) s
+    (λ words. ReadsBefore lone words (told c.args.inputs.now) (told i) stop)) in
     let back : c.inputs-1.given.0 ≡ c.within.result.inputs.now = search rules in
-    subst Reads (sym back) (c.within.ensures.unread (sym c.give_back.ensures.done ∙ want) lone)
+    subst (Reads c.give_back.result) (sym back)
+    (subst (λ r. Reads r c.within.result.inputs.now) (sym c.give_back.ensures.done) c.within.ensures.unread)
 
 pub returns-clause-broken : goal.returns-clause-broken
 returns-clause-broken g c = λ failed lone.

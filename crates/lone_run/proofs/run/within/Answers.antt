@@ -1,17 +1,18 @@
-use Rattle.std.proofs.Common.{◌≡◌, None, Result, Err, refl, sym, ap, subst}
-use Rattle.search_words.specs.Settings.{run_seen, settings_seen}
+use Rattle.std.proofs.Common.{◌≡◌, None, Err, refl, sym, subst}
+use Rattle.psr_base.specs.Told.{Told}
+use Rattle.search_words.specs.Settings.{RunSeen, run_seen, settings_seen}
 use Rattle.disk_feeder.specs.declared.answers.FeedEnd.TheVariants.{ReadFault}
 use Rattle.run_stop.specs.declared.stop.Stop.{Stop as Stopped}
 use Rattle.run_stop.specs.declared.stop.Stop.TheVariants as Stop
-use Rattle.run_stop.specs.Outcomes.{ReadsNoData, LeavesAtFault}
+use Rattle.run_stop.specs.Outcomes.{LeavesAtFault}
 use Rattle.run_stop.specs.Runs.{Searching, Alone}
 use Rattle.search_opening.specs.Early.{LeavesEarly}
 use Rattle.search_opening.specs.Settings.{ForWords}
 use Rattle.lone_run.specs.declared.stop.LoneStop.{LoneStop}
 use Rattle.lone_run.specs.declared.stop.LoneStop.TheVariants.{Run, Unscoped}
-use Rattle.lone_run.specs.Stops.{StopsEarly, FailsReading}
+use Rattle.lone_run.specs.Stops.{FailsReading, LeavesAlone, ReadsBefore, StopsEarly}
 use Rattle.lone_run.proofs.Told.{read_through}
-use Rattle.lone_run.proofs.Wording.{stops_alone, is_found}
+use Rattle.lone_run.proofs.Wording.{stops_alone, reads_before, is_found}
 use Rattle.lone_run.proofs.Through.{opened_over, begins_alone, is_parted}
 use Rattle.lone_run.proofs.run.within.Goals as goal
 
@@ -71,10 +72,10 @@ pub returns-in-Err-open_alone-clause-stopped : goal.returns-in-Err-open_alone-cl
 returns-in-Err-open_alone-clause-stopped g c =
     let told = g.I.Inputs.told in
     let s = settings_seen c.args.settings.now in
-    let scopes = g.S.Scoping.scopes c.args.scoping.now in
+    let accepts = g.S.Scoping.accepts c.args.scoping.now in
     let refuses = g.S.Scoping.refuses c.args.scoping.now in
-    let Early : _ → Type 0 = λ i. StopsEarly scopes refuses s (told i) c.in-Err-open_alone.stop in
-    stops_alone c.words_say_once.ensures c.early_stops_are_said.ensures.said scopes refuses s
+    let Early : _ → Type 0 = λ i. StopsEarly accepts refuses s (told i) c.in-Err-open_alone.stop in
+    stops_alone c.words_say_once.ensures c.early_stops_are_said.ensures.said accepts refuses s
     (told c.args.inputs.now) c.in-Err-open_alone.stop
     (subst Early c.over-feeder.ensures.inputs c.in-Err-open_alone.ensures.stopped)
 
@@ -91,28 +92,28 @@ returns-in-Ok-open_alone-clause-broken g c = λ failed lone.
     (begins_alone g.I.Inputs.told g.I.Inputs.is_open s _ _ at.0 _ parted.opened lone)
 
 pub returns-in-Err-open_alone-clause-unread : goal.returns-in-Err-open_alone-clause-unread
-returns-in-Err-open_alone-clause-unread g c = λ want lone.
+returns-in-Err-open_alone-clause-unread g c = λ lone.
     let told = g.I.Inputs.told in
     let s = settings_seen c.args.settings.now in
     let now = c.args.inputs.now in
-    let early = c.in-Err-open_alone.ensures.leaves Stop.Memory (ap Err (one_err _ _ _ refl want)) in
-    let Before : _ → Type 0 = λ i. LeavesEarly (run_seen c.args.settings.now.run) (g.I.Inputs.is_calm i) (told i)
-    (told c.open_alone.new.feeder.inputs.now) Stop.Memory in
-    let After : _ → Type 0 = λ i. ForWords (Alone lone) s (λ words.
-    ReadsNoData (Alone lone) words (told now) (told i)) in
+    let end = c.open_alone.new.feeder.inputs.now in
+    let stop = c.in-Err-open_alone.stop in
+    let Before : _ → Type 0 = λ i. LeavesAlone (run_seen c.args.settings.now.run) (g.I.Inputs.is_calm i) (told i)
+    (told end) stop in
+    let After : _ → Type 0 = λ i. ForWords (Alone lone) s (λ words. ReadsBefore lone words (told now) (told i) stop) in
     subst After (sym c.close.ensures.inputs)
-    ((c.early_stops_are_said.ensures.leave now (Alone lone) s (told now) (told c.open_alone.new.feeder.inputs.now)
-    Stop.Memory (subst Before c.over-feeder.ensures.inputs early)).unread refl)
-  where
-    one_err : {T E : Type 0} (r : Result T E) (a b : E) → r ≡ Err a → r ≡ Err b → a ≡ b
-    one_err r a b one other = cc
+    (reads_before c.words_say_once.ensures s (g.I.Inputs.is_calm now) (told now) (told end) stop
+    (subst Before c.over-feeder.ensures.inputs c.in-Err-open_alone.ensures.leaves)
+    (λ x early lone want. (c.early_stops_are_said.ensures.leave now (Alone lone) s (told now) (told end) x early).unread
+    want) lone)
 
 pub returns-in-Err-open_alone-clause-broken : goal.returns-in-Err-open_alone-clause-broken
 returns-in-Err-open_alone-clause-broken g c = λ failed lone.
     let told = g.I.Inputs.told in
     let s = settings_seen c.args.settings.now in
     let now = c.args.inputs.now in
-    let early = c.in-Err-open_alone.ensures.leaves Stop.ReadFault (ap Err (at_fault c.in-Err-open_alone.stop failed)) in
+    let early = at_fault (run_seen c.args.settings.now.run) _ _ _ c.in-Err-open_alone.stop failed
+    c.in-Err-open_alone.ensures.leaves in
     let Before : _ → Type 0 = λ i. LeavesEarly (run_seen c.args.settings.now.run) (g.I.Inputs.is_calm i) (told i)
     (told c.open_alone.new.feeder.inputs.now) Stop.ReadFault in
     let After : _ → Type 0 = λ i. ForWords (Alone lone) s (λ words.
@@ -121,6 +122,9 @@ returns-in-Err-open_alone-clause-broken g c = λ failed lone.
     ((c.early_stops_are_said.ensures.leave now (Alone lone) s (told now) (told c.open_alone.new.feeder.inputs.now)
     Stop.ReadFault (subst Before c.over-feeder.ensures.inputs early)).broken refl)
   where
-    at_fault : {F : Type 0} (stop : LoneStop F) → FailsReading (Err stop) → stop ≡ Run Stop.ReadFault
-    at_fault (Run stop) failed = ap (λ (x : Stopped). Run x) failed
-    at_fault (Unscoped refusal) failed = absurd failed
+    at_fault : {F : Type 0} (s : RunSeen) (is_calm : Type 0) (before after : Told) (stop : LoneStop F) →
+        FailsReading (Err stop) → LeavesAlone s is_calm before after stop →
+        LeavesEarly s is_calm before after Stop.ReadFault
+    at_fault s is_calm before after (Run stop) failed leaves =
+        subst (λ (x : Stopped). LeavesEarly s is_calm before after x) failed leaves
+    at_fault s is_calm before after (Unscoped refusal) failed leaves = absurd failed

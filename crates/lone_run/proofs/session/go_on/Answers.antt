@@ -49,4 +49,4 @@ returns-clause-went g c = λ s scope before opened read.
     goes_alone c.firsts_stay_told.ensures g.I.Inputs.told g.I.Inputs.is_open g.I.Inputs.is_calm g.I.Inputs.faults s
     before c.args.inputs.now c.run_alone-end.new.inputs c.args.feeder c.args.opened.observation scope
     c.args.opened.space _ c.run_alone-end.result _ opened c.session-session.ensures.bank fed
-    c.run_alone-end.ensures.bank read has refl refl refl c.engine_of.ensures
+    c.run_alone-end.ensures.bank read has refl refl refl c.engine_of.ensures c.lies_in_range.ensures
