@@ -1,4 +1,4 @@
-// Runs as the lines of a table say them, and how they must end.
+// Runs as the lines of a table give them, and how they must end.
 use crate::files::{NO_FILE, fields_of, inputs_for, push_lines};
 use crate::running::{ENOUGH, Ended, Limits, NEVER, run_over, words_of};
 use psr_base::{Inputs, MemInputs};
@@ -7,8 +7,8 @@ use std::process::Abort;
 use std::sync::Wait;
 use std::test::Fail;
 
-/// A run on each line: the mask; the words after those of the whole table; the numbers of the calls that fail, and how
-/// much room there is, where it is little; the status; the output and the line on the notes, with `;` for the end of a
+/// A run on each line: the mask; its arguments after those of the whole table; the numbers of the calls that fail, and
+/// how much room there is, if it is little; the status; the output and the line on the notes, with `;` for the end of a
 /// line; and, of some, how many calls of the inputs were made, and how many blocks went through.
 #[derive(Clone, Copy)]
 pub(crate) struct Table {
@@ -120,7 +120,7 @@ fn check<R: Wait + Abort>(
     Ok(())
 }
 
-/// Runs the lines of the tables, each of which must end as it says.
+/// Runs the lines of the tables, each of which must end as the line says.
 pub(crate) fn check_all<R: Wait + Abort>(
     rt: &R,
     alloc: Global,

@@ -3,8 +3,8 @@ use psr_base::MemInputs;
 use std::alloc::Global;
 use std::test::Fail;
 
-// A file on each line: its name; the lines of its header, where `;` ends a line; its data, where 9*0 are nine zeros;
-// and how long it is without its data, if not 4096 bytes.
+// A file on each line: its name; the lines of its header, each ended by `;`; its data, in which 9*0 are nine zeros; and
+// how long it is without its data, if not 4096 bytes.
 const FILES: &str = "
 pulse   | NCHAN 2;NBIT 8;TSAMP 64;FREQ 1400;BW -200;OBS_OFFSET 0; | 10 0 0 20 0 0
 front   | NCHAN 2;NBIT 8;TSAMP 64;FREQ 1400;BW -200;OBS_OFFSET 0; | 10 0 0 20
@@ -21,7 +21,7 @@ nothing |
 short   | NCHAN 2; | | 100
 ";
 
-/// The fields of a line of a table, which `|` parts. Those that it doesn't have are empty.
+/// The fields of a line of a table, divided by `|`. Missing ones are empty.
 pub(crate) fn fields_of(line: &'static str) -> [&'static str; 7] {
     let mut fields = [""; 7];
     for (i, field) in line.split('|').enumerate() {
@@ -52,7 +52,7 @@ fn push_data(bytes: &mut Vec<u8>, data: &str) -> Result<(), Fail> {
     Ok(())
 }
 
-/// The bytes of a header with these lines, of so many bytes.
+/// The bytes of a header with these lines, of `size` bytes.
 pub(crate) fn header_of(alloc: Global, lines: &str, size: usize) -> Result<Vec<u8>, Fail> {
     let mut bytes = Vec::new(alloc);
     push_lines(&mut bytes, "HDR_SIZE 4096;")?;
@@ -77,7 +77,7 @@ fn bytes_in(alloc: Global, fields: [&'static str; 7]) -> Result<Vec<u8>, Fail> {
 /// A name that no run reads.
 pub(crate) const NO_FILE: &str = "";
 
-// The bytes of the file of a name, where there is one.
+// The bytes of the file of a name, if there is one.
 fn bytes_of(alloc: Global, name: &str) -> Result<Option<Vec<u8>>, Fail> {
     for line in FILES.lines() {
         let fields = fields_of(line);
@@ -88,7 +88,7 @@ fn bytes_of(alloc: Global, name: &str) -> Result<Option<Vec<u8>>, Fail> {
     Ok(None)
 }
 
-/// Inputs that hold the files that the words name, and of whose calls the one with this number fails.
+/// Inputs that hold the files that the arguments name, whose call with this number fails.
 pub(crate) fn inputs_for(alloc: Global, words: &str, failing: u64) -> Result<MemInputs, Fail> {
     let mut inputs = MemInputs::open(alloc, &[failing])?;
     inputs.put(NO_FILE, &[])?;

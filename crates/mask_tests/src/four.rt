@@ -34,7 +34,7 @@ pub(crate) fn layout_of(number: u32) -> Layout {
     }
 }
 
-// Its header.
+// The header of a layout.
 fn lines_of(layout: Layout) -> &'static str {
     match (layout.is_falling, layout.is_wide, layout.is_double) {
         (true, false, false) => "NCHAN 4;NBIT 8;NPOL 1;TSAMP 64;FREQ 1400;BW -200;",

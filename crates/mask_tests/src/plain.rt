@@ -19,7 +19,7 @@ pub(crate) fn is_masked(mask: u32, c: usize) -> bool {
     }
 }
 
-// The sample of a channel; 0 where there is none.
+// The sample of a channel; 0 if there is none.
 fn sample(c: usize, t: usize) -> u64 {
     let place = t.wrapping_mul(CHANNELS).wrapping_add(c);
     u64::from(SAMPLES.get(place).copied().unwrap_or(0))
@@ -65,7 +65,7 @@ pub(crate) struct Text {
 }
 
 impl Text {
-    // The box of a width that ends at a spectrum, where it is detected.
+    // Appends the box of a width that ends at a spectrum, if it is detected.
     fn pulse(
         &mut self,
         alloc: Global,
@@ -92,7 +92,7 @@ impl Text {
         Ok(())
     }
 
-    // The fold of period 2 over two rows, where it is detected.
+    // Appends the fold of period 2 over two rows, if it is detected.
     fn fold(
         &mut self,
         alloc: Global,
@@ -115,7 +115,7 @@ impl Text {
         Ok(())
     }
 
-    // All boxes, by end, delay and width.
+    // Appends all boxes, by end, delay and width.
     fn all_pulses(&mut self, alloc: Global, mask: u32) -> Result<(), Fail> {
         for u in 0..SPECTRA {
             for d in 0..3 {
@@ -126,7 +126,7 @@ impl Text {
         Ok(())
     }
 
-    // All folds, by delay, trial and phase.
+    // Appends all folds, by delay, trial and phase.
     fn all_folds(&mut self, alloc: Global, mask: u32) -> Result<(), Fail> {
         for d in 0..3 {
             for trial in 0..2 {

@@ -1,7 +1,7 @@
 // Runs.
 use crate::cases::Table;
 
-// Of two channels.
+// Runs over two channels.
 const PULSES: Table = Table {
     words: "--mean 1 --sd 2 --snr 7 --max-delay 1 --widths 1 --size 512",
     runs: "
@@ -124,7 +124,7 @@ none | ramp --widths 1 | | 0 | PULSE 2 0 0.000 1 3 2;PULSE 3 0 0.000 1 4 2;\
 ",
 };
 
-// Of 4096 channels all but one or two, by ranges downward and with channels named twice.
+// Of 4096 channels all but one or two are masked, by ranges downward and with channels named twice.
 const WIDE: Table = Table {
     words: "--mean 1 --sd 2 --snr 3 --max-delay 0 --widths 1 --size 512",
     runs: "

@@ -38,11 +38,11 @@ pub(crate) struct Ended {
     pub(crate) status: u8,
     pub(crate) text: String,
     pub(crate) notes: String,
-    /// How many blocks went through its data ring, or none where it had none.
+    /// How many blocks went through its data ring, or none if it had no ring.
     pub(crate) blocks: u64,
 }
 
-/// The words of a line after those that there are.
+/// Appends the words of a line to those that there are.
 pub(crate) fn push_words(alloc: Global, words: &mut Vec<String>, line: &str) -> Result<(), Fail> {
     for word in line.split_whitespace() {
         words.push(String::from_str(alloc, word)?)?;
@@ -50,7 +50,7 @@ pub(crate) fn push_words(alloc: Global, words: &mut Vec<String>, line: &str) -> 
     Ok(())
 }
 
-/// The program's name, a mask text, and the words of two lines.
+/// The program's name, a mask text, and the arguments of two lines.
 pub(crate) fn words_of(
     alloc: Global,
     mask: &str,

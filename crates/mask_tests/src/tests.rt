@@ -16,7 +16,7 @@ fn runs_end_as_their_words_and_files_say(rt: HostRuntime) -> Result<(), Fail> {
     check_all(&rt, rt.alloc(), &RUNS)
 }
 
-// Few words, before which there may be no file.
+// The status of a run with few arguments, so that there may be no file among them.
 fn status_of<R: Wait>(rt: &R, alloc: Global, line: &str) -> Result<u8, Fail> {
     let mut words = Vec::new(alloc);
     push_words(alloc, &mut words, line)?;

@@ -1,4 +1,4 @@
-// Runs as the lines of a table say them, and how they must end.
+// Runs as the lines of a table give them, and how they must end.
 use crate::files::{fields_of, inputs_for, push_lines};
 use crate::running::{ENOUGH, Ended, Limits, run_words, words_of};
 use std::alloc::Global;
@@ -6,8 +6,8 @@ use std::process::Abort;
 use std::sync::Wait;
 use std::test::Fail;
 
-// The words that follow those of each line of a table, and the lines: the words that come first; the numbers of the
-// calls that fail, and how much room there is, where it is little; the status; the output, and the line on the notes,
+// The arguments that follow those of each line of a table, and the lines: the arguments that come first; the numbers of
+// the calls that fail, and how much room there is, if it is little; the status; the output, and the line on the notes,
 // with `;` for the end of a line; and, of some, how many blocks went through.
 #[derive(Clone, Copy)]
 struct Table {
@@ -175,7 +175,7 @@ impl Case {
     }
 }
 
-// Whether these are the lines, each ended by `;`; at a fault of the output a front of a text is not looked at.
+// Whether `bytes` are the lines, each ended by `;`. After a fault of the output a front of a text isn't looked at.
 fn has_lines(alloc: Global, bytes: &[u8], lines: &str, status: u8) -> Result<bool, Fail> {
     let mut wanted = Vec::new(alloc);
     push_lines(&mut wanted, lines)?;

@@ -3,7 +3,7 @@ use psr_base::MemInputs;
 use std::alloc::Global;
 use std::test::Fail;
 
-// A file on each line: its name; the lines of its header, or its whole text after `=`; its data, where 9*0 are nine
+// A file on each line: its name; the lines of its header, or its whole text after `=`; its data, in which 9*0 are nine
 // zeros; and how long it is without its data, if not 4096 bytes. A `;` ends a line, here and below.
 const FILES: &str = "
 pulse    | NCHAN 2;NBIT 8;TSAMP 64;FREQ 1400;BW -200; | 10 0 0 20 0 0
@@ -39,7 +39,7 @@ nothing  | =
 end      | =END 1 0 3;
 ";
 
-/// The fields of a line of a table, which `|` parts. Those that it doesn't have are empty.
+/// The fields of a line of a table, divided by `|`. Missing ones are empty.
 pub(crate) fn fields_of(line: &'static str) -> [&'static str; 6] {
     let mut fields = [""; 6];
     for (i, field) in line.split('|').enumerate() {
@@ -90,7 +90,7 @@ fn bytes_in(alloc: Global, fields: [&'static str; 6]) -> Result<Vec<u8>, Fail> {
     Ok(bytes)
 }
 
-// The bytes of the file of a name, where there is one.
+// The bytes of the file of a name, if there is one.
 fn bytes_of(alloc: Global, name: &str) -> Result<Option<Vec<u8>>, Fail> {
     for line in FILES.lines() {
         let fields = fields_of(line);
@@ -101,7 +101,7 @@ fn bytes_of(alloc: Global, name: &str) -> Result<Option<Vec<u8>>, Fail> {
     Ok(None)
 }
 
-/// Inputs that hold the files that the words name, and of whose calls the one with this number fails.
+/// Inputs that hold the files that the arguments name, whose call with this number fails.
 pub(crate) fn inputs_for(alloc: Global, words: &str, failing: u64) -> Result<MemInputs, Fail> {
     let mut inputs = MemInputs::open(alloc, &[failing])?;
     for word in words.split_whitespace() {

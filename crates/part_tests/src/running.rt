@@ -18,7 +18,7 @@ pub(crate) struct Limits {
 /// A number that no call of a small run has.
 pub(crate) const NEVER: u64 = 1_000_000;
 
-/// What is enough.
+/// Limits that fail no call of a run.
 pub(crate) const ENOUGH: Limits = Limits {
     input: NEVER,
     out: NEVER,
@@ -32,11 +32,11 @@ pub(crate) struct Ended {
     pub(crate) status: u8,
     pub(crate) text: Vec<u8>,
     pub(crate) notes: Vec<u8>,
-    /// How many blocks went through its data ring, or none where it had none.
+    /// How many blocks went through its data ring, or none if it had no ring.
     pub(crate) blocks: u64,
 }
 
-/// The program's name, and the words of two lines.
+/// The program's name, and the arguments of two lines.
 pub(crate) fn words_of(alloc: Global, first: &str, more: &str) -> Result<Vec<String>, Fail> {
     let mut words = Vec::new(alloc);
     words.push(String::from_str(alloc, "psr")?)?;
@@ -48,7 +48,7 @@ pub(crate) fn words_of(alloc: Global, first: &str, more: &str) -> Result<Vec<Str
     Ok(words)
 }
 
-/// Searches a part by these words over these inputs.
+/// Searches a part with these words over these inputs.
 pub(crate) fn run_words<R: Wait>(
     rt: &R,
     alloc: Global,

@@ -5,7 +5,7 @@ use Rattle.run_stop.specs.Runs.{Alone, stream_for}
 use Rattle.run_stop.specs.Ends.{AcceptedGoesOn}
 use Rattle.psr_mask.specs.Masking.{mask_search}
 use Rattle.psr_mask.specs.Outcome.{AcceptedIsSearched}
-use Rattle.psr_mask.proofs.Causes.{mask_not_refused, needed_told}
+use Rattle.psr_mask.proofs.Causes.{mask_not_refused, needed_told, refused_by}
 use Rattle.psr_mask.proofs.Statuses.{by_status}
 
 pub accepted_is_searched : (is_calm : Type 0) → MasksAreNotRefused → AcceptedGoesOn is_calm →
@@ -28,4 +28,5 @@ accepted_is_searched is_calm masks goes_on words seen o s files says are mask se
     (λ e. absurd (out_quiet (a.written.failed e)))
     (λ e. let refused = a.mask.refused e in
     absurd (mask_not_refused masks words (stream_for s files) mask refused.1
-    (refused.2.1 s files says (needed_told seen.inputs.told s.names files are)))) refl
+    (refused_by words seen.inputs.told refused.1 refused.2 s files says
+    (needed_told seen.inputs.told s.names files are)))) refl

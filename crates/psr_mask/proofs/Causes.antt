@@ -1,6 +1,6 @@
 -- From what stands against a search to its status: at no other status it could stand there.
 use Rattle.std.proofs.Common.{◌≡◌, ◌<◌, ◌⊎◌, ℕ, zero, suc, List, [], ◌∷◌, Bool, true, false, inl, inr, sym, ◌∙◌, ap, subst, refl, Some, None, Contains, arith}
-use Rattle.std.specs.Prelude.{Option, IsSome, nat_le, ◌&&◌, ◌||◌, ◌==◌}
+use Rattle.std.specs.Prelude.{Option, IsSome, length, slice_index_or, nat_le, ◌&&◌, ◌||◌, ◌==◌}
 use Rattle.psr_base.specs.Count.{Rose}
 use Rattle.psr_base.specs.Told.{Told}
 use Rattle.ring_ends.specs.declared.finished.Finished.{Finished}
@@ -8,7 +8,7 @@ use Rattle.search_words.specs.Settings.{SettingsSeen}
 use Rattle.stream_model.specs.Walk as walk
 use Rattle.stream_model.specs.Walk.{FileStream, WalkStop, walk_stop}
 use Rattle.stream_model.specs.WalkLaws.{AreWalked}
-use Rattle.disk_feeder.specs.Plan.{AreTold, AreToldAt}
+use Rattle.disk_feeder.specs.Plan.{AreTold, AreToldAt, IsFirstFile}
 use Rattle.disk_feeder.specs.Filling.{HoldsAll}
 use Rattle.disk_feeder.specs.declared.answers.HeaderCause.{HeaderCause}
 use Rattle.channel_mask.specs.MaskLaws.{MasksAreNotRefused}
@@ -19,12 +19,13 @@ use Rattle.run_stop.specs.declared.causes.RecordingCause.{RecordingCause}
 use Rattle.run_stop.specs.declared.stop.Stop.{Stop}
 use Rattle.run_stop.specs.declared.stop.Stop.TheVariants.{Header, Gap, TooLong}
 use Rattle.run_stop.specs.Texts.{status_of}
+use Rattle.run_stop.specs.Firsts.{first_name}
 use Rattle.run_stop.specs.Lone.{SayAlone}
 use Rattle.run_stop.specs.Runs.{Alone, first_observation, stream_for, stop_of_walk, CanBegin, RefusesFirstHeader, RefusesSearch, RefusesFirsts, RefusesSearches, RefusesRecordings, StopsWalk}
 use Rattle.run_stop.specs.Ends.{AcceptedIsNotRefused}
-use Rattle.psr_mask.specs.Masking.{AcceptsFirst, RefusesFiles, fault_of, mask_search, mask_word}
+use Rattle.psr_mask.specs.Masking.{AcceptsFirst, AcceptsMask, AcceptsMaskWord, RefusesFiles, RefusesMask, RefusesMaskWord, fault_of, mask_search, mask_word}
 use Rattle.psr_mask.specs.Notes.{mask_status}
-use Rattle.psr_mask.specs.Outcome.{Outcome, SearchSeen, HasMasked, IsSearched}
+use Rattle.psr_mask.specs.Outcome.{IsOutcome, SearchSeen, HasMasked, IsSearched}
 use Rattle.psr_mask.specs.Causes.{Answers, EachIsAnswered, CausesAreAnswered, ToldRoomIsEnough}
 use Rattle.psr_mask.specs.declared.refusal.MaskRefusal.{MaskRefusal}
 use Rattle.psr_mask.specs.declared.refusal.MaskRefusal.TheVariants.{BadMask, OutOfRange, AllMasked}
@@ -63,6 +64,32 @@ mask_not_refused masks words w accepts refusal refuses =
     let text = mask_word words in
     no_want refusal (masks o text (mask_of o text) (fault_of refusal) accepts refuses.1)
 
+-- by a first file that is told
+pub refused_by : (words : List (List ℕ)) (told : Told) (refusal : MaskRefusal) → RefusesMaskWord words told refusal →
+    (s : SettingsSeen) (files : List (List ℕ)) → SayAlone (mask_search words) words s →
+    AreToldAt (IsFirstFile s.starts (length s.names)) told s.names files →
+    RefusesFiles words (stream_for s files) refusal
+refused_by words told refusal r s files says are =
+    let begins = r.first.1 s files says are in
+    (begins.walked, subst (λ o. RefusesMask (mask_word words) o refusal) (sym begins.is) r.holds)
+
+accepted_by : (words : List (List ℕ)) (told : Told) → AcceptsMaskWord words told → (s : SettingsSeen)
+    (files : List (List ℕ)) → SayAlone (mask_search words) words s →
+    AreToldAt (IsFirstFile s.starts (length s.names)) told s.names files → AcceptsFirst words (stream_for s files)
+accepted_by words told a s files says are =
+    subst (λ o. AcceptsMask (mask_word words) o) (sym (a.first.1 s files says are).is) a.holds
+
+-- the first file of a transfer is told
+first_told : (told : Told) (s : SettingsSeen) (files : List (List ℕ)) → AreWalked (stream_for s files) →
+    AreToldAt (IsFirstFile s.starts (length s.names)) told s.names files →
+    IsSome (told.bytes_under (first_name s.names s.starts 0))
+first_told told s files walked are =
+    let some = walked.starts.some in
+    let count = are.count in
+    let within : slice_index_or s.starts 0 (length s.names) < length s.names =
+    subst (λ n. slice_index_or s.starts 0 n < n) count (walked.starts.within 0 some) in
+    subst IsSome (sym (are.each (slice_index_or s.starts 0 (length s.names)) within (0, some, refl))) refl
+
 -- ---- the statuses
 
 -- those of a search with no data ring
@@ -86,9 +113,60 @@ early_is_not_late k (suc (suc (suc (suc (suc zero)))), below, at) late =
     no_two (subst (λ m. is_late m ≡ true) (sym at) late)
 early_is_not_late k (suc (suc (suc (suc (suc (suc i))))), below, at) late = omega (arith, below)
 
-module _ (words : List (List ℕ)) (is_calm : Type 0) (seen : SearchSeen)
-    (outcome : Outcome words seen.inputs is_calm seen.out_before seen.out_after seen.notes_before seen.notes_after
-    seen.ran)
+-- the inputs are calm, or count no fault
+abbrev Quiet : Type 0 → SearchSeen → Type 0
+Quiet is_calm seen = is_calm ⊎ (¬ Rose seen.inputs.faults_before seen.inputs.faults_after)
+
+-- ---- a mask that is refused, by the first file alone
+
+module _ (words : List (List ℕ)) (is_calm : Type 0) (seen : SearchSeen) (outcome : IsOutcome words is_calm seen)
+    (s : SettingsSeen) (files : List (List ℕ)) (says : SayAlone (mask_search words) words s)
+    (first : AreToldAt (IsFirstFile s.starts (length s.names)) seen.inputs.told s.names files)
+    (not_refused : AcceptedIsNotRefused) (masks : MasksAreNotRefused) (calm : Quiet is_calm seen)
+    (refusal : MaskRefusal) (refuses : RefusesFiles words (stream_for s files) refusal) where
+  not_accepted : AcceptsMaskWord words seen.inputs.told → ⊥
+  not_accepted accepts = mask_not_refused masks words (stream_for s files)
+      (accepted_by words seen.inputs.told accepts s files says first) refusal refuses
+
+  no_session : IsSome seen.ran.blocks → ⊥
+  no_session some = not_accepted (outcome.answered.mask.accepted (inr some))
+
+  -- where all data or the walk were read, there is a data ring
+  not_late : (k : ℕ) → seen.ran.status ≡ k → is_late k ≡ true → (b : Option Finished) → seen.ran.blocks ≡ b → ⊥
+  not_late k e late (Some b) is = no_session (subst IsSome (sym is) refl)
+  not_late k e late None is =
+      early_is_not_late k (subst (Contains early) e (outcome.answered.run.sealed.none is)) late
+
+  no_fault : Quiet is_calm seen → seen.ran.status ≡ 6 → ⊥
+  no_fault (inl is) six = no_session (outcome.answered.held is s says
+      (first_told seen.inputs.told s files refuses.0 first) six)
+  no_fault (inr still) six = still (outcome.answered.run.read.failed six)
+
+  no_header : seen.ran.status ≡ 3 → (b : Option Finished) → seen.ran.blocks ≡ b → ⊥
+  no_header three (Some b) is = no_session (subst IsSome (sym is) refl)
+  no_header three None is =
+      let r = outcome.answered.run.stopped.first_header three is in
+      not_refused.firsts (Alone (mask_search words)) words seen.inputs.told s files r.0 r.1 says first refuses.0 r.2
+
+  pub by_mask : Answers seen.ran.status mask_status
+  by_mask = by_status (λ k. seen.ran.status ≡ k → Answers seen.ran.status mask_status) seen.ran.status
+      outcome.answered.known
+      (λ e. absurd (not_late 0 e refl seen.ran.blocks refl))
+      (λ e. absurd (outcome.answered.run.judged.refused e s says))
+      (λ e. absurd (no_header e seen.ran.blocks refl))
+      (λ e. absurd (not_accepted (outcome.answered.mask.accepted (inl e))))
+      (λ e. inr e)
+      (λ e. absurd (no_fault calm e))
+      (λ e. absurd (not_late 7 e refl seen.ran.blocks refl))
+      (λ e. absurd (not_late 8 e refl seen.ran.blocks refl))
+      (λ e. absurd (not_late 9 e refl seen.ran.blocks refl))
+      (λ e. absurd (not_late 10 e refl seen.ran.blocks refl))
+      (λ e. inl e)
+      refl
+
+-- ---- each cause, by all files
+
+module _ (words : List (List ℕ)) (is_calm : Type 0) (seen : SearchSeen) (outcome : IsOutcome words is_calm seen)
     (s : SettingsSeen) (files : List (List ℕ)) (says : SayAlone (mask_search words) words s)
     (are : AreTold seen.inputs.told s.names files) (not_refused : AcceptedIsNotRefused)
     (masks : MasksAreNotRefused) where
@@ -101,11 +179,10 @@ module _ (words : List (List ℕ)) (is_calm : Type 0) (seen : SearchSeen)
   abbrev Begins : Type 0
   Begins = CanBegin (Alone (mask_search words)) s w
 
-  -- the inputs are calm, or count no fault
-  abbrev Quiet : Type 0
-  Quiet = is_calm ⊎ (¬ Rose seen.inputs.faults_before seen.inputs.faults_after)
+  abbrev IsQuiet : Type 0
+  IsQuiet = Quiet is_calm seen
 
-  not_six : Quiet → n ≡ 6 → ⊥
+  not_six : IsQuiet → n ≡ 6 → ⊥
   not_six (inl is) e =
       outcome.answered.run.read.serves is s says (holds_all seen.inputs.told s.names files are) e
   not_six (inr still) e = still (outcome.answered.run.read.failed e)
@@ -165,23 +242,14 @@ module _ (words : List (List ℕ)) (is_calm : Type 0) (seen : SearchSeen)
 
   -- the mask was refused
   at_mask : n ≡ 12 → (refusal : MaskRefusal) × RefusesFiles words w refusal
-  at_mask e = let r = outcome.answered.mask.refused e in (r.1, r.2.1 s files says needed)
-
-  -- where all data or the walk were read, there is a data ring
-  ring_at : (k : ℕ) → n ≡ k → is_late k ≡ true → (b : Option Finished) → seen.ran.blocks ≡ b → IsSome seen.ran.blocks
-  ring_at k e late (Some b) is = subst IsSome (sym is) refl
-  ring_at k e late None is =
-      absurd (early_is_not_late k (subst (Contains early) e (outcome.answered.run.sealed.none is)) late)
-
-  -- so the mask was accepted
-  accepted_at : (k : ℕ) → n ≡ k → is_late k ≡ true → AcceptsFirst words w
-  accepted_at k e late =
-      outcome.answered.mask.accepted (inr (ring_at k e late seen.ran.blocks refl)) s files says needed
+  at_mask e =
+      let r = outcome.answered.mask.refused e in
+      (r.1, refused_by words seen.inputs.told r.1 r.2 s files says needed)
 
   -- ---- each cause against each status
 
   -- Where a search stops before its data are read, each status that comes later has a run that begins.
-  module _ (calm : Quiet) (begins_not : Begins → ⊥) (wanted : ℕ)
+  module _ (calm : IsQuiet) (begins_not : Begins → ⊥) (wanted : ℕ)
       (first : n ≡ 3 → (file : ℕ) (cause : HeaderCause) →
       RefusesFirsts (Alone (mask_search words)) words seen.inputs.told file cause → Answers n wanted)
       (plan : n ≡ 4 → Answers n wanted) (own : n ≡ 12 → Answers n wanted) where
@@ -210,7 +278,7 @@ module _ (words : List (List ℕ)) (is_calm : Type 0) (seen : SearchSeen)
         at_three : n ≡ 3 → Answers n wanted
         at_three e = by_header (at_header seen.ran.blocks refl e) e
 
-  header : Quiet → (file : ℕ) (cause : HeaderCause) → RefusesFirstHeader w file cause → Answers n 3
+  header : IsQuiet → (file : ℕ) (cause : HeaderCause) → RefusesFirstHeader w file cause → Answers n 3
   header calm file cause refuses = before_data calm
       (λ begins. not_refused.header w file cause begins.accepted refuses) 3 (λ e file cause again. inl e)
       (λ e. absurd (not_refused.header w file cause (at_plan e).1.accepted refuses))
@@ -220,41 +288,14 @@ module _ (words : List (List ℕ)) (is_calm : Type 0) (seen : SearchSeen)
   no_mask : AcceptsFirst words w → n ≡ 12 → ⊥
   no_mask accepts e = let r = at_mask e in mask_not_refused masks words w accepts r.0 r.1
 
-  plan : Quiet → AcceptsFirst words w → (cause : PlanCause) → RefusesSearch s.search w cause → Answers n 4
+  plan : IsQuiet → AcceptsFirst words w → (cause : PlanCause) → RefusesSearch s.search w cause → Answers n 4
   plan calm accepts cause refuses = before_data calm
       (λ begins. not_refused.search s.search w cause begins.searched refuses) 4
       (λ e file first again. absurd (not_firsts refuses.accepted file first again)) (λ e. inl e)
       (λ e. absurd (no_mask accepts e))
 
-  -- where it is refused
-  module _ (calm : Quiet) (refusal : MaskRefusal) (refuses : RefusesFiles words w refusal) where
-    not_accepted : AcceptsFirst words w → ⊥
-    not_accepted accepts = mask_not_refused masks words w accepts refusal refuses
-
-    by_mask : Answers n mask_status
-    by_mask = by_status (λ k. n ≡ k → Answers n mask_status) n outcome.answered.known
-        (λ e. absurd (not_accepted (accepted_at 0 e refl)))
-        (λ e. absurd (outcome.answered.run.judged.refused e s says))
-        (λ e. absurd (no_header (at_header seen.ran.blocks refl e)))
-        (λ e. absurd (not_accepted (outcome.answered.mask.accepted (inl e) s files says needed)))
-        (λ e. inr e)
-        (λ e. absurd (not_six calm e))
-        (λ e. absurd (not_accepted (accepted_at 7 e refl)))
-        (λ e. absurd (not_accepted (accepted_at 8 e refl)))
-        (λ e. absurd (not_accepted (accepted_at 9 e refl)))
-        (λ e. absurd (not_accepted (accepted_at 10 e refl)))
-        (λ e. inl e)
-        refl
-      where
-        no_header : ((file : ℕ) × (cause : HeaderCause)
-            × RefusesFirsts (Alone (mask_search words)) words seen.inputs.told file cause)
-            ⊎ (IsSome seen.ran.blocks × (file : ℕ) × (cause : HeaderCause)
-            × StopsWalk (Alone (mask_search words)) s w (Header file cause)) → ⊥
-        no_header (inl r) = not_firsts refuses.0 r.0 r.1 r.2
-        no_header (inr r) = not_accepted (outcome.answered.mask.accepted (inr r.0) s files says needed)
-
   -- Where a run begins, nothing is refused before its data are read.
-  module _ (calm : Quiet) (accepts : AcceptsFirst words w) (begins : Begins) (wanted : ℕ)
+  module _ (calm : IsQuiet) (accepts : AcceptsFirst words w) (begins : Begins) (wanted : ℕ)
       (searched : IsSearched words s w → Answers n wanted)
       (stops : (stop : Stop) → n ≡ status_of stop → stop_of_walk w.max_bytes (walk_stop w) ≡ Some stop →
       Answers n wanted)
@@ -284,7 +325,7 @@ module _ (words : List (List ℕ)) (is_calm : Type 0) (seen : SearchSeen)
         at_three : n ≡ 3 → Answers n wanted
         at_three e = by_header (at_header seen.ran.blocks refl e) e
 
-  walk_stops : Quiet → AcceptsFirst words w → (stop : Stop) → StopsWalk (Alone (mask_search words)) s w stop →
+  walk_stops : IsQuiet → AcceptsFirst words w → (stop : Stop) → StopsWalk (Alone (mask_search words)) s w stop →
       Answers n (status_of stop)
   walk_stops calm accepts stop at = after_begin calm accepts at.begins (status_of stop)
       (λ searched. absurd (no_stop w.max_bytes (walk_stop w) stop searched.whole at.stops))
@@ -292,24 +333,27 @@ module _ (words : List (List ℕ)) (is_calm : Type 0) (seen : SearchSeen)
       (λ e. absurd (no_stop w.max_bytes (walk_stop w) stop (outcome.answered.too_many e s files says are).whole
       at.stops))
 
-  too_many : Quiet → AcceptsFirst words w → HasMasked words s w (λ total. s.search.max_candidates < total) →
+  too_many : IsQuiet → AcceptsFirst words w → HasMasked words s w (λ total. s.search.max_candidates < total) →
       Answers n 9
   too_many calm accepts many = after_begin calm accepts many.begins 9
       (λ searched. let least = many.total in let most = searched.total in absurd (omega (arith, least, most)))
       (λ stop e is. absurd (no_stop w.max_bytes (walk_stop w) stop many.whole is)) (λ e. inl e)
 
-  each : Quiet → EachIsAnswered words s w n
+  each : IsQuiet → EachIsAnswered words s w n
   each calm = record {
     header = header calm;
-    mask = by_mask calm;
+    mask = by_mask words is_calm seen outcome s files says needed not_refused masks calm;
     plan = plan calm;
     walk = walk_stops calm;
     too_many = too_many calm;
   }
 
 pub causes_are_answered : (is_calm : Type 0) → AcceptedIsNotRefused → MasksAreNotRefused → CausesAreAnswered is_calm
-causes_are_answered is_calm not_refused masks words seen o s files says are calm =
-    each words is_calm seen o s files says are not_refused masks calm
+causes_are_answered is_calm not_refused masks = record {
+  files = λ words seen o s files says are calm. each words is_calm seen o s files says are not_refused masks calm;
+  mask = λ words seen o s files says first calm refusal refuses.
+      by_mask words is_calm seen o s files says first not_refused masks calm refusal refuses;
+}
 
 -- ---- what has room
 

@@ -23,24 +23,27 @@ use Rattle.run_stop.specs.declared.stop.Stop.{Stop}
 use Rattle.run_stop.specs.declared.stop.Stop.TheVariants.{Words, Value, Header, Plan, Recording, Memory, ReadFault, Gap, TooLong, TooMany, SinkFault, FileFault}
 use Rattle.run_stop.specs.Texts.{status_of}
 use Rattle.run_stop.specs.Conversions.{stop_of_words, stop_of_feed}
+use Rattle.run_stop.specs.Firsts.{first_name}
 use Rattle.run_stop.specs.Lone.{SayAlone}
-use Rattle.run_stop.specs.Runs.{Alone, CanBegin, first_observation, stream_for}
+use Rattle.run_stop.specs.Outcomes.{BreaksFirsts}
+use Rattle.run_stop.specs.Runs.{Alone, CanBegin, ForFirsts, OfEachFirst, first_observation, stream_for}
 use Rattle.run_stop.specs.Ends.{CountsFaults, StopsBefore, WordsSayOnce, short_statuses}
 use Rattle.search_opening.specs.Plans.{IsOfPlan}
 use Rattle.lone_run.specs.declared.found.LoneFound.{LoneFound}
 use Rattle.lone_run.specs.declared.stop.LoneStop.{LoneStop}
 use Rattle.lone_run.specs.declared.stop.LoneStop.TheVariants.{Run, Unscoped}
 use Rattle.lone_run.specs.Found.{IsFoundAlone, HasFoundAll}
-use Rattle.lone_run.specs.Stops.{StopsAlone, FailsReading}
+use Rattle.lone_run.specs.Scopes.{SaysObservation}
+use Rattle.lone_run.specs.Stops.{BeginsWith, StopsAlone, FailsReading}
 use Rattle.lone_run.specs.Outcomes.{RunsAlone, EndsAlone}
 use Rattle.lone_run.specs.EndLaws.{AloneBeforeSession, AloneAtOwnStop, AloneAtFeedStop, AloneAfterWhole, GoesThrough}
-use Rattle.psr_mask.specs.Masking.{ForMask, AcceptsFirst, AcceptsMask, AcceptsMaskWord, RefusesMask, RefusesMaskWord, ScopesMask, mask_search, mask_word, masked_list, text_without}
+use Rattle.psr_mask.specs.Masking.{ForMask, AcceptsMask, AcceptsMaskWord, RefusesMask, RefusesMaskWord, ScopesMask, mask_search, mask_word, masked_list, text_without}
 use Rattle.psr_mask.specs.Notes.{mask_status, end_status}
 use Rattle.psr_mask.specs.Outcome.{Answered, HasMasked, HasText, JudgesMask, Outcome, TellsMask, WritesMasked}
 use Rattle.psr_mask.specs.Ends.{Ends, EndsFed, EndsKept, HoldsKept, as_alone}
 use Rattle.psr_mask.specs.declared.refusal.MaskRefusal.{MaskRefusal}
 use Rattle.psr_mask.proofs.Causes.{needed_told}
-use Rattle.psr_mask.proofs.Statuses.{whole_is}
+use Rattle.psr_mask.proofs.Statuses.{fault_is, whole_is}
 
 no_ring : IsSome {T = Finished} None → ⊥
 no_ring some = cc
@@ -67,13 +70,14 @@ module _ (words : List (List ℕ)) where
       subst (λ (t : SettingsSeen). (files : List (List ℕ)) → AreTold told t.names files → P t (stream_for t files))
       (once (Alone (mask_search words)) words s0 s says0 says) holds files are
 
-  -- and that their mask is accepted
+  -- and that of the first
   for_first : (told : Told) → WordsSayOnce → (s0 : SettingsSeen) → SayAlone (mask_search words) words s0 →
+      (P : FileStream → Type 0) →
       ((files : List (List ℕ)) → AreToldAt (IsFirstFile s0.starts (length s0.names)) told s0.names files →
-      AcceptsFirst words (stream_for s0 files)) → AcceptsMaskWord words told
-  for_first told once s0 says0 holds s files says are =
+      P (stream_for s0 files)) → ForFirsts (Alone (mask_search words)) words told (λ s w. P w)
+  for_first told once s0 says0 P holds s files says are =
       subst (λ (t : SettingsSeen). (files : List (List ℕ)) →
-      AreToldAt (IsFirstFile t.starts (length t.names)) told t.names files → AcceptsFirst words (stream_for t files))
+      AreToldAt (IsFirstFile t.starts (length t.names)) told t.names files → P (stream_for t files))
       (once (Alone (mask_search words)) words s0 s says0 says) holds files are
 
   none_written : (told : Told) (n : ℕ) (before after : SinkSeen) → n ≢ 0 → n ≢ 10 → after ≡ before →
@@ -87,24 +91,23 @@ module _ (words : List (List ℕ)) where
   }
 
 -- a plan that is refused, and no recording: a search alone makes none
-plan_is : (words : List (List ℕ)) (told : Told) (s : SettingsSeen) (files : List (List ℕ)) (stop : Stop) →
+plan_is : (words : List (List ℕ)) (told : Told) (s : SettingsSeen) (stop : Stop) →
     StopsBefore (Alone (mask_search words)) words told stop → status_of stop ≡ 4 →
-    SayAlone (mask_search words) words s → AreToldAt (IsFirstFile s.starts (length s.names)) told s.names files →
-    IsOfPlan stop
-plan_is words told s files Words b e says are = absurd (omega (arith, e))
-plan_is words told s files (Value opt) b e says are = absurd (omega (arith, e))
-plan_is words told s files (Header file cause) b e says are = absurd (omega (arith, e))
-plan_is words told s files (Plan cause) b e says are = (cause, refl)
-plan_is words told s files (Recording cause) b e says are =
-    let on = (b.says.1 s files says are).records in
+    SayAlone (mask_search words) words s → IsOfPlan stop
+plan_is words told s Words b e says = absurd (omega (arith, e))
+plan_is words told s (Value opt) b e says = absurd (omega (arith, e))
+plan_is words told s (Header file cause) b e says = absurd (omega (arith, e))
+plan_is words told s (Plan cause) b e says = (cause, refl)
+plan_is words told s (Recording cause) b e says =
+    let on = (b.says.0 s says).records in
     let off = says.search.one.unrecorded in absurd cc
-plan_is words told s files Memory b e says are = absurd (omega (arith, e))
-plan_is words told s files ReadFault b e says are = absurd (omega (arith, e))
-plan_is words told s files (Gap file expected found) b e says are = absurd (omega (arith, e))
-plan_is words told s files (TooLong limit) b e says are = absurd (omega (arith, e))
-plan_is words told s files (TooMany count limit) b e says are = absurd (omega (arith, e))
-plan_is words told s files SinkFault b e says are = absurd (omega (arith, e))
-plan_is words told s files FileFault b e says are = absurd (omega (arith, e))
+plan_is words told s Memory b e says = absurd (omega (arith, e))
+plan_is words told s ReadFault b e says = absurd (omega (arith, e))
+plan_is words told s (Gap file expected found) b e says = absurd (omega (arith, e))
+plan_is words told s (TooLong limit) b e says = absurd (omega (arith, e))
+plan_is words told s (TooMany count limit) b e says = absurd (omega (arith, e))
+plan_is words told s SinkFault b e says = absurd (omega (arith, e))
+plan_is words told s FileFault b e says = absurd (omega (arith, e))
 
 -- the engine of a run that went through has searched the channels that the mask keeps
 pub holds : (words : List (List ℕ)) (told : Told) (s0 : SettingsSeen) (found : LoneFound)
@@ -131,10 +134,15 @@ module _ (words : List (List ℕ)) (inputs : InputsSeen) (is_calm : Type 0) wher
   abbrev Accepts : Option Finished → ℕ → Type 0
   Accepts blocks n = (n ≡ 4) ⊎ IsSome blocks → AcceptsMaskWord words inputs.told
 
+  -- calm inputs that hold the first file fail where there is one
+  abbrev Holds : Option Finished → ℕ → Type 0
+  Holds blocks n = is_calm → (s : SettingsSeen) → SayAlone (mask_search words) words s →
+      IsSome (inputs.told.bytes_under (first_name s.names s.starts 0)) → n ≡ 6 → IsSome blocks
+
   at_short : (blocks : Option Finished) (stop : Stop) (before after : SinkSeen) →
       EndsAlone mask_status (mask_search words) words inputs is_calm blocks stop → Accepts blocks (status_of stop) →
-      after ≡ before → Ends words inputs is_calm before after (Some (Run stop)) blocks
-  at_short blocks stop before after e accepted same =
+      Holds blocks (status_of stop) → after ≡ before → Ends words inputs is_calm before after (Some (Run stop)) blocks
+  at_short blocks stop before after e accepted held same =
       let least = e.least in
       let most = e.most in
       record {
@@ -145,6 +153,7 @@ module _ (words : List (List ℕ)) (inputs : InputsSeen) (is_calm : Type 0) wher
               (λ is. omega (arith, is, most)) same;
           run = e.run;
           mask = record { refused = λ is. absurd (omega (arith, is, most)); accepted = accepted };
+          held = held;
           too_many = λ is. absurd (omega (arith, is, most));
         };
         said = e.said;
@@ -154,8 +163,15 @@ module _ (words : List (List ℕ)) (inputs : InputsSeen) (is_calm : Type 0) wher
   pub at_words : (fault : WordFault) (stop : Stop) (out : SinkSeen) → stop ≡ stop_of_words fault →
       EndsAlone mask_status (mask_search words) words inputs is_calm None stop →
       Ends words inputs is_calm out out (Some (Run stop)) None
-  at_words fault stop out is e = at_short None stop out out e (λ why. absurd (not_accepted why)) refl
+  at_words fault stop out is e =
+      at_short None stop out out e (λ why. absurd (not_accepted why))
+      (λ calm s says there six. absurd (no_fault fault (sym (ap status_of is) ∙ six))) refl
     where
+      no_fault : (f : WordFault) → status_of (stop_of_words f) ≢ 6
+      no_fault words_fault.Refused six = omega (arith, six)
+      no_fault (words_fault.OutOfRange opt) six = omega (arith, six)
+      no_fault words_fault.Memory six = omega (arith, six)
+
       other : (f : WordFault) → status_of (stop_of_words f) ≢ 4
       other words_fault.Refused four = omega (arith, four)
       other (words_fault.OutOfRange opt) four = omega (arith, four)
@@ -169,20 +185,26 @@ module _ (words : List (List ℕ)) (inputs : InputsSeen) (is_calm : Type 0) wher
 
   module _ (s0 : SettingsSeen) (says0 : SayAlone (mask_search words) words s0) where
     run_before : AloneBeforeSession is_calm → (stop : Stop) (out : SinkSeen) →
-        StopsAlone (ScopesMask (mask_word words)) (RefusesMask (mask_word words)) (mask_search words) words
-        inputs.told (Run stop) → CountsFaults inputs is_calm s0.names (stop ≡ ReadFault) →
+        StopsAlone (AcceptsMask (mask_word words)) (RefusesMask (mask_word words)) (mask_search words) words
+        inputs.told (Run stop) → CountsFaults inputs is_calm s0.names (stop ≡ ReadFault) → (after : Told) →
+        (stop ≡ ReadFault → BreaksFirsts (Alone (mask_search words)) words is_calm inputs.told after) →
         Ends words inputs is_calm out out (Some (Run stop)) None
-    run_before law stop out stops read =
+    run_before law stop out stops read after broken =
         at_short None stop out out (law mask_status (mask_search words) words s0 inputs stop says0 stops.0 read)
-        accepted refl
+        accepted held refl
       where
-        by_plan : status_of stop ≡ 4 → AcceptsMaskWord words inputs.told
-        by_plan four s files says are =
-            (stops.1 (plan_is words inputs.told s files stop stops.0 four says are) s files says are).1.accepted
-
         accepted : Accepts None (status_of stop)
-        accepted (inl four) = by_plan four
+        accepted (inl four) = stops.1 (plan_is words inputs.told s0 stop stops.0 four says0)
         accepted (inr some) = absurd (no_ring some)
+
+        held : Holds None (status_of stop)
+        held calm s says there six =
+            let b = broken (fault_is stop six) s says in
+            let below = b.there in
+            let one = says.search.one.transfer in
+            let first : b.transfer ≡ 0 = omega (arith, below, one) in
+            absurd (b.missing calm
+            (subst (λ k. IsSome (inputs.told.bytes_under (first_name s.names s.starts k))) (sym first) there))
 
     own_before : AloneAtOwnStop is_calm → (refusal : MaskRefusal) (out : SinkSeen) →
         RefusesMaskWord words inputs.told refusal → CountsFaults inputs is_calm s0.names ⊥ →
@@ -196,6 +218,7 @@ module _ (words : List (List ℕ)) (inputs : InputsSeen) (is_calm : Type 0) wher
           refused = λ e. (refl, refusal, refused);
           accepted = not_accepted;
         };
+        held = λ calm s says there six. absurd (omega (arith, six));
         too_many = λ e. absurd (omega (arith, e));
       };
       said = refused;
@@ -207,12 +230,14 @@ module _ (words : List (List ℕ)) (inputs : InputsSeen) (is_calm : Type 0) wher
 
     pub before_session : AloneBeforeSession is_calm → AloneAtOwnStop is_calm → (stop : LoneStop MaskRefusal)
         (out : SinkSeen) →
-        StopsAlone (ScopesMask (mask_word words)) (RefusesMask (mask_word words)) (mask_search words) words
+        StopsAlone (AcceptsMask (mask_word words)) (RefusesMask (mask_word words)) (mask_search words) words
         inputs.told stop → CountsFaults inputs is_calm s0.names
-        (FailsReading {F = MaskRefusal} (Err stop)) →
+        (FailsReading {F = MaskRefusal} (Err stop)) → (after : Told) →
+        (FailsReading {F = MaskRefusal} (Err stop) →
+        BreaksFirsts (Alone (mask_search words)) words is_calm inputs.told after) →
         Ends words inputs is_calm out out (Some stop) None
-    before_session law own (Run stop) out stops read = run_before law stop out stops read
-    before_session law own (Unscoped refusal) out stops read = own_before own refusal out stops read
+    before_session law own (Run stop) out stops read after broken = run_before law stop out stops read after broken
+    before_session law own (Unscoped refusal) out stops read after broken = own_before own refusal out stops read
 
   -- ---- after the session
 
@@ -223,14 +248,25 @@ module _ (words : List (List ℕ)) (inputs : InputsSeen) (is_calm : Type 0) wher
     text = mask_word words
 
     accepts : AcceptsMaskWord words inputs.told
-    accepts = for_first words inputs.told once s0 through.says (λ files are.
-        subst (AcceptsMask text) (sym (is.first files are)) is.scoped.accepted)
+    accepts = record {
+      observation = found.observation;
+      range = is.range;
+      holds = is.scoped.accepted;
+      first = (
+        λ s says. subst (λ (t : SettingsSeen). OfEachFirst inputs.told t (SaysObservation found.observation))
+            (once (Alone (mask_search words)) words s0 s through.says says) is.says,
+        for_first words inputs.told once s0 through.says (BeginsWith found.observation) (λ files are. record {
+          walked = (through.fed.begun.1 s0 files through.says are).accepted;
+          is = is.first files are;
+        }),
+      );
+    }
 
     stopped : AloneAtFeedStop is_calm → (stop : Stop) (before after : SinkSeen) → stop_of_feed found.feed ≡ Some stop →
         after ≡ before → Ends words inputs is_calm before after (Some (Run stop)) (Some found.blocks)
     stopped law stop before after fed same = at_short (Some found.blocks) stop before after
         (law mask_status (mask_search words) words s0 inputs found.blocks found.feed stop through fed) (λ why. accepts)
-        same
+        (λ calm s says there six. refl) same
 
     -- ---- with all data
 
@@ -308,6 +344,7 @@ module _ (words : List (List ℕ)) (inputs : InputsSeen) (is_calm : Type 0) wher
               };
               run = (late 0 is_done).0;
               mask = judges 0 (λ e. omega (arith, e));
+              held = λ calm s says there six. refl;
               too_many = λ e. absurd (omega (arith, e));
             };
             said = tt;
@@ -328,6 +365,7 @@ module _ (words : List (List ℕ)) (inputs : InputsSeen) (is_calm : Type 0) wher
               };
               run = (late 10 is_broken_off).0;
               mask = judges 10 (λ e. omega (arith, e));
+              held = λ calm s says there six. refl;
               too_many = λ e. absurd (omega (arith, e));
             };
             said = (tt, tt);
@@ -344,6 +382,7 @@ module _ (words : List (List ℕ)) (inputs : InputsSeen) (is_calm : Type 0) wher
                   same;
               run = (late 9 is_crowded).0;
               mask = judges 9 (λ e. omega (arith, e));
+              held = λ calm s says there six. refl;
               too_many = λ e.
                   counts 9 is_crowded (λ s t. s.search.max_candidates < t) (omega (arith, total, most, many));
             };

@@ -48,6 +48,21 @@ of_run (TooMany count limit) = omega arith
 of_run SinkFault = omega arith
 of_run FileFault = omega arith
 
+-- 6 is the status of a fault of the inputs
+pub fault_is : (stop : Stop) → status_of stop ≡ 6 → stop ≡ ReadFault
+fault_is Words is = absurd (omega (arith, is))
+fault_is (Value opt) is = absurd (omega (arith, is))
+fault_is (Header file cause) is = absurd (omega (arith, is))
+fault_is (Plan cause) is = absurd (omega (arith, is))
+fault_is (Recording cause) is = absurd (omega (arith, is))
+fault_is Memory is = absurd (omega (arith, is))
+fault_is ReadFault is = refl
+fault_is (Gap file expected found) is = absurd (omega (arith, is))
+fault_is (TooLong limit) is = absurd (omega (arith, is))
+fault_is (TooMany count limit) is = absurd (omega (arith, is))
+fault_is SinkFault is = absurd (omega (arith, is))
+fault_is FileFault is = absurd (omega (arith, is))
+
 -- all data were sealed where the feeder has no stop
 pub whole_is : (e : FeedEnd) → stop_of_feed e ≡ None → (count : ℕ) × (e ≡ feed.Whole count)
 whole_is (feed.Whole count) none = (count, refl)

@@ -11,7 +11,7 @@ use Rattle.run_stop.specs.Texts.{status_of}
 use Rattle.run_stop.specs.Runs.{Alone, RefusesFirstHeader, RefusesSearch, StopsWalk}
 use Rattle.psr_mask.specs.Masking.{AcceptsFirst, RefusesFiles, mask_search, text_without}
 use Rattle.psr_mask.specs.Notes.{mask_status}
-use Rattle.psr_mask.specs.Outcome.{ForOutcomes, HasMasked}
+use Rattle.psr_mask.specs.Outcome.{ForOutcomes, ForOutcomesByFirst, HasMasked}
 use Rattle.psr_mask.specs.declared.refusal.MaskRefusal.{MaskRefusal}
 
 -- the status is this one, or there was no memory
@@ -33,11 +33,16 @@ pub record EachIsAnswered (words : List (List ℕ)) (s : SettingsSeen) (w : File
   pub too_many : AcceptsFirst words w →
       HasMasked words s w (λ total. s.search.max_candidates < total) → Answers status 9
 
--- So it is over inputs that are calm and hold all files, or that count no fault.
-abbrev pub CausesAreAnswered : Type 0 → Type 0
-CausesAreAnswered is_calm = ForOutcomes is_calm (λ words seen s w.
-    is_calm ⊎ ¬ Rose seen.inputs.faults_before seen.inputs.faults_after →
-    EachIsAnswered words s w seen.ran.status)
+-- So it is over inputs that are calm and hold all files, or that count no fault. A mask that is refused has its status
+-- whatever is told of files after the first one.
+pub record CausesAreAnswered (is_calm : Type 0) : Type 0 where
+  pub files : ForOutcomes is_calm (λ words seen s w.
+      is_calm ⊎ ¬ Rose seen.inputs.faults_before seen.inputs.faults_after →
+      EachIsAnswered words s w seen.ran.status)
+  pub mask : ForOutcomesByFirst is_calm (λ words seen s w.
+      is_calm ⊎ ¬ Rose seen.inputs.faults_before seen.inputs.faults_after →
+      (refusal : MaskRefusal) → RefusesFiles words w refusal →
+      Answers seen.ran.status mask_status)
 
 -- Who told enough room for the text has no fault of the output, wherever the files are told that are read.
 abbrev pub ToldRoomIsEnough : Type 0 → Type 0

@@ -15,8 +15,8 @@ use Rattle.channel_mask.specs.Masked.{IsScopeOf}
 use Rattle.channel_mask.specs.declared.fault.MaskFault.{MaskFault}
 use Rattle.channel_mask.specs.declared.fault.MaskFault.TheVariants as fault
 use Rattle.run_stop.specs.Lone.{LoneSearch}
-use Rattle.run_stop.specs.Runs.{Alone, ForFiles, ForFirsts, JudgesFirsts, first_observation}
-use Rattle.lone_run.specs.Stops.{RefusesFirst, RefusesFirstAt}
+use Rattle.run_stop.specs.Runs.{Alone, ForFiles, first_observation}
+use Rattle.lone_run.specs.Stops.{RefusesFirst, ForHeader}
 use Rattle.psr_mask.specs.declared.refusal.MaskRefusal.{MaskRefusal}
 use Rattle.psr_mask.specs.declared.refusal.MaskRefusal.TheVariants.{BadMask, OutOfRange, AllMasked}
 
@@ -83,14 +83,14 @@ mask_search words = record {
 abbrev pub ForMask : List (List ℕ) → Told → (SettingsSeen → FileStream → Type 0) → Type 0
 ForMask words = ForFiles (Alone (mask_search words)) words
 
--- by the first file alone, whatever comes after it: the mask text of the words is a mask of the observation of its
--- header; or the header is accepted, and the text is no mask of it
+-- The first header is accepted, and the mask text of the words is a mask of its observation; or it is none. Whether it
+-- is a mask text at all, and where it stops being the front of one, is so whatever is told: no observation plays a part
+-- in that. Its numbers are judged by the channels of the observation, which is the one of the header where the first
+-- file is told, whatever comes after it.
 abbrev pub AcceptsMaskWord : List (List ℕ) → Told → Type 0
 AcceptsMaskWord words told =
-    ForFirsts (Alone (mask_search words)) words told (λ s w. AcceptsFirst words w)
+    ForHeader (mask_search words) words told (λ o. AcceptsMask (mask_word words) o)
 
 abbrev pub RefusesMaskWord : List (List ℕ) → Told → MaskRefusal → Type 0
 RefusesMaskWord words told refusal =
-    JudgesFirsts (Alone (mask_search words)) words told
-    (λ s. RefusesFirstAt (RefusesMask (mask_word words)) s told refusal)
-    (λ s w. RefusesFiles words w refusal)
+    ForHeader (mask_search words) words told (λ o. RefusesMask (mask_word words) o refusal)

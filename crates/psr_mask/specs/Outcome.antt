@@ -1,14 +1,15 @@
 -- What the exit status of a search without masked channels says.
 -- Source: this project's choice.
-use Rattle.std.specs.Prelude.{◌≡◌, ◌≢◌, ℕ, ◌≤◌, ◌<◌, ◌⊎◌, List, [], ◌∷◌, Option, None, IsSome, Contains}
+use Rattle.std.specs.Prelude.{◌≡◌, ◌≢◌, ℕ, ◌≤◌, ◌<◌, ◌⊎◌, List, [], ◌∷◌, length, Option, None, IsSome, Contains}
 use Rattle.psr_base.specs.Count.{Rose}
 use Rattle.psr_base.specs.Told.{Told, InputsSeen}
 use Rattle.psr_base.specs.Written.{SinkSeen, WroteAll, WroteFront, Noted}
 use Rattle.ring_ends.specs.declared.finished.Finished.{Finished}
 use Rattle.search_words.specs.Settings.{SettingsSeen}
 use Rattle.stream_model.specs.Walk.{FileStream}
-use Rattle.disk_feeder.specs.Plan.{AreTold}
+use Rattle.disk_feeder.specs.Plan.{AreTold, AreToldAt, IsFirstFile}
 use Rattle.run_stop.specs.declared.ran.Ran.{Ran}
+use Rattle.run_stop.specs.Firsts.{first_name}
 use Rattle.run_stop.specs.Lone.{SayAlone}
 use Rattle.run_stop.specs.Outcomes.{NotesStop}
 use Rattle.run_stop.specs.Runs.{Alone, FindsAlone, stream_for}
@@ -45,7 +46,7 @@ pub record WritesMasked
 -- ---- the mask
 
 -- 12 only where the first header is accepted and the mask text of the words is no mask of its observation; where the
--- plan is refused, and once there is a data ring, it is one. Each is so by the first file, whatever comes after it.
+-- plan is refused, and once there is a data ring, it is one.
 pub record JudgesMask (words : List (List ℕ)) (told : Told) (blocks : Option Finished)
     (status : ℕ) : Type 0 where
   pub refused : status ≡ mask_status → (blocks ≡ None)
@@ -74,6 +75,10 @@ pub record Answered (words : List (List ℕ)) (inputs : InputsSeen) (is_calm : T
   pub written : WritesMasked words inputs.told out_before out_after status
   pub run : RunsAlone mask_status (mask_search words) words inputs is_calm blocks status
   pub mask : JudgesMask words inputs.told blocks status
+  -- calm inputs that hold the first file fail in the session alone
+  pub held : is_calm → (s : SettingsSeen) → SayAlone (mask_search words) words s →
+      IsSome (inputs.told.bytes_under (first_name s.names s.starts 0)) → status ≡ 6 →
+      IsSome blocks
   -- 9 exactly where all data have more candidates in these channels than there may be
   pub too_many : status ≡ 9 → ForMask words inputs.told (λ s w.
       HasMasked words s w (λ total. s.search.max_candidates < total))
@@ -97,14 +102,27 @@ pub record SearchSeen : Type 0 where
   pub notes_after : SinkSeen
   pub ran : Ran
 
--- P holds of each outcome of a search over inputs that may be calm, where its words say settings and the bytes of all
--- their files are told: of the words, of what is seen of it, and of the settings and the files as a walk sees them
+-- it is an outcome of a search for these words over inputs that may be calm
+abbrev pub IsOutcome : List (List ℕ) → Type 0 → SearchSeen → Type 0
+IsOutcome words is_calm seen = Outcome words seen.inputs is_calm seen.out_before seen.out_after
+    seen.notes_before seen.notes_after seen.ran
+
+-- P holds of each outcome where its words say settings and the bytes of all their files are told: of the words, of what
+-- is seen of it, and of the settings and the files as a walk sees them
 abbrev pub ForOutcomes : Type 0 →
     (List (List ℕ) → SearchSeen → SettingsSeen → FileStream → Type 0) → Type 0
 ForOutcomes is_calm P = (words : List (List ℕ)) (seen : SearchSeen) →
-    Outcome words seen.inputs is_calm seen.out_before seen.out_after seen.notes_before
-    seen.notes_after seen.ran → (s : SettingsSeen) (files : List (List ℕ)) →
+    IsOutcome words is_calm seen → (s : SettingsSeen) (files : List (List ℕ)) →
     SayAlone (mask_search words) words s → AreTold seen.inputs.told s.names files →
+    P words seen s (stream_for s files)
+
+-- the same where the first file is told; of all others nothing is said
+abbrev pub ForOutcomesByFirst : Type 0 →
+    (List (List ℕ) → SearchSeen → SettingsSeen → FileStream → Type 0) → Type 0
+ForOutcomesByFirst is_calm P = (words : List (List ℕ)) (seen : SearchSeen) →
+    IsOutcome words is_calm seen → (s : SettingsSeen) (files : List (List ℕ)) →
+    SayAlone (mask_search words) words s →
+    AreToldAt (IsFirstFile s.starts (length s.names)) seen.inputs.told s.names files →
     P words seen s (stream_for s files)
 
 -- Words, first header, mask, plan, data and candidates that are accepted are searched, over inputs that are calm or

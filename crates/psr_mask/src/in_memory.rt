@@ -3,6 +3,7 @@ ghost use Rattle.std.specs.Prelude.{◌≡◌, [], map, string_bytes};
 ghost use Rattle.psr_base.specs.InMemory.{told_of, calls_of, sink_seen};
 ghost use Rattle.run_stop.specs.Outcomes.{ReadsNoData, LeavesAtFault};
 ghost use Rattle.run_stop.specs.Runs.{Alone};
+ghost use Rattle.lone_run.specs.Stops.{ReadsHeader};
 ghost use Rattle.psr_mask.specs.Masking.{mask_search};
 ghost use Rattle.psr_mask.specs.Outcome.{Outcome};
 
@@ -12,7 +13,7 @@ use run_stop::Ran;
 use std::alloc::Global;
 use std::sync::Wait;
 
-/// Searches files in memory, as `run_mask` does. The inputs are calm where none of their calls is to fail.
+/// Searches files in memory, as `run_mask` does. The inputs are calm if none of their calls is to fail.
 pub fn run_mask_in_memory<R: Wait>(
     rt: &R,
     alloc: Global,
@@ -32,6 +33,9 @@ pub fn run_mask_in_memory<R: Wait>(
     ensures early { result.status ≡ 5
         → ReadsNoData (Alone (mask_search (map string_bytes words.now)))
         (map string_bytes words.now) (told_of inputs.old) (told_of inputs.new) }
+    ensures refused { result.status ≡ 12
+        → ReadsHeader (mask_search (map string_bytes words.now)) (map string_bytes words.now)
+        (told_of inputs.old) (told_of inputs.new) }
     ensures broken { result.status ≡ 6
         → LeavesAtFault (Alone (mask_search (map string_bytes words.now)))
         (map string_bytes words.now) ((calls_of inputs.old).fail ≡ []) (told_of inputs.old)

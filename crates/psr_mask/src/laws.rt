@@ -9,8 +9,8 @@ use psr_base::Inputs;
 use channel_mask::masks_are_not_refused;
 use run_stop::{accepted_goes_on, accepted_is_not_refused};
 
-/// Words, first header, mask, plan and data that are accepted are searched, or there is no memory, where neither the
-/// inputs nor the output count a fault.
+/// If arguments, first header, mask, plan and data are accepted, they are searched, or there is no memory, provided
+/// that neither the inputs nor the output count a fault.
 pub fn accepted_is_searched<I: Inputs>()
     ensures { (inputs : I) → AcceptedIsSearched (I.is_calm inputs) }
 {
@@ -18,9 +18,10 @@ pub fn accepted_is_searched<I: Inputs>()
     masks_are_not_refused();
 }
 
-/// What stands against a search whose words are accepted is answered, over inputs that are calm and hold all files, or
-/// that count no fault: a refused first header by 3, a refused mask by 12, a refused plan by 4, the stop of the walk of
-/// the files by its status, and too many candidates by 9; or there is no memory.
+/// What stands against a search whose arguments are accepted is answered, over inputs that are calm and hold all files,
+/// or that count no fault: a refused first header by 3, a refused mask by 12, a refused plan by 4, the stop of the walk
+/// of the files by its status, and too many candidates by 9; or there is no memory. A refused mask is answered by 12
+/// whatever is told of the files after the first one.
 pub fn causes_are_answered<I: Inputs>()
     ensures { (inputs : I) → CausesAreAnswered (I.is_calm inputs) }
 {
@@ -28,7 +29,7 @@ pub fn causes_are_answered<I: Inputs>()
     masks_are_not_refused();
 }
 
-/// Where the files are told that are read, 10 never comes over an output that told enough room for the text.
+/// If the files that are read are told, 10 never comes over an output that told enough room for the text.
 pub fn told_room_is_enough<I: Inputs>()
     ensures { (inputs : I) → ToldRoomIsEnough (I.is_calm inputs) }
 {}

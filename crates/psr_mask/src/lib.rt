@@ -1,4 +1,5 @@
-//! The search of files of filterbank samples without the channels that a mask names.
+//! The search of files of filterbank samples without the channels that a mask names: `run_mask` is the whole program
+//! `psr_mask`, over inputs and streams of the caller's; `run_mask_in_memory` is `run_mask` over those in memory.
 #![tactic(auto)]
 
 mod in_memory;

@@ -1,4 +1,4 @@
-// What a mask text says of an observation.
+// What a mask text gives for an observation.
 ghost use Rattle.dada_model.specs.Observation.{Observation as Described};
 ghost use Rattle.channel_mask.specs.Masks.{ExplainsMask};
 ghost use Rattle.lone_run.specs.Scopes.{ExplainsScope};
@@ -8,6 +8,7 @@ use crate::refusal::MaskRefusal;
 use channel_mask::{Mask, MaskFault};
 use lone_run::{ScopeFault, Scoping};
 use obs_plan::Observation;
+use psr_base::Memory;
 use search_engine::Scope;
 use search_model::Search;
 use std::alloc::Global;
@@ -34,27 +35,39 @@ fn scope_fault(fault: MaskFault, text: &[u8]) -> ScopeFault<MaskRefusal>
 }
 
 impl Scoping for MaskWord<'_> {
-    ghost use Rattle.psr_mask.specs.Masking.{RefusesMask, ScopesMask};
+    ghost use Rattle.channel_mask.specs.Masks.{IsMaskOf};
+    ghost use Rattle.psr_mask.specs.Masking.{AcceptsMask, RefusesMask, ScopesMask};
 
     type Refusal = MaskRefusal;
 
-    ghost scopes = { λ word o s scope. ScopesMask word.text.now o s scope };
+    type Accepted = Mask;
+
+    ghost accepts = { λ word o. AcceptsMask word.text.now o };
 
     ghost refuses = { λ word o refusal. RefusesMask word.text.now o refusal };
+
+    ghost keeps = { λ word o mask. IsMaskOf o word.text.now mask };
+
+    ghost scopes = { λ word o s scope. ScopesMask word.text.now o s scope };
+
+    fn judge(
+        &self,
+        alloc: Global,
+        observation: &Observation,
+    ) -> Result<Mask, ScopeFault<MaskRefusal>> {
+        match Mask::read(alloc, self.text, observation) {
+            Ok(mask) => Ok(mask),
+            Err(fault) => Err(scope_fault(fault, self.text)),
+        }
+    }
 
     fn scope(
         &self,
         alloc: Global,
         observation: &Observation,
         search: &Search,
-    ) -> Result<Scope, ScopeFault<MaskRefusal>> {
-        let mask = match Mask::read(alloc, self.text, observation) {
-            Ok(mask) => mask,
-            Err(fault) => return Err(scope_fault(fault, self.text)),
-        };
-        match mask.scope(alloc, observation, search.max_delay) {
-            Ok(scope) => Ok(scope),
-            Err(_memory) => Err(ScopeFault::Memory),
-        }
+        mask: Mask,
+    ) -> Result<Scope, Memory> {
+        mask.scope(alloc, observation, search.max_delay)
     }
 }

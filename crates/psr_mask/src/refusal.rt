@@ -7,11 +7,12 @@ use text_line::Line;
 /// Why a text is no mask of an observation.
 #[derive(Clone, Copy, Debug, PartialEq, Eq)]
 pub enum MaskRefusal {
-    /// It is no mask text. `place` is that of the first byte with which it stops being the front of one, or its length.
+    /// It is no mask text. `place` is that of the first byte with which it stops being the front of one, or its length
+    /// if it is a front.
     BadMask { place: usize },
-    /// The first number in it that is no channel, and the number of channels.
+    /// `channel` is the first number in it that is no channel of the observation, which has `channels` of them.
     OutOfRange { channel: u32, channels: u32 },
-    /// No channel is left.
+    /// No channel would be left.
     AllMasked,
 }
 
@@ -41,7 +42,7 @@ fn range_line(channel: u32, channels: u32) -> Line
 impl MaskRefusal {
     ghost use Rattle.psr_mask.specs.Notes.{mask_note};
 
-    /// The line that tells the user.
+    /// The line on standard error.
     pub fn note(self) -> Line
         ensures { result ≡ mask_note self }
     {

@@ -2,8 +2,8 @@
 ghost use Rattle.std.specs.Prelude.{◌≡◌, ℕ, List, Some};
 ghost use Rattle.psr_base.specs.Told.{Told};
 ghost use Rattle.run_stop.specs.declared.stop.Stop.TheVariants.{Memory, ReadFault};
-ghost use Rattle.lone_run.specs.declared.stop.LoneStop.TheVariants.{Run};
-ghost use Rattle.psr_mask.specs.Notes.{end_status};
+ghost use Rattle.lone_run.specs.declared.stop.LoneStop.TheVariants.{Run, Unscoped};
+ghost use Rattle.psr_mask.specs.Notes.{end_status, mask_status};
 ghost use Rattle.psr_mask.specs.Ends.{IsSaidOf};
 ghost use Rattle.psr_mask.specs.Outcome.{TellsMask};
 
@@ -15,12 +15,14 @@ use run_stop::{tell, tell_line};
 // The exit status of a mask that is refused.
 const MASK_REFUSED: u8 = 12;
 
-/// Tells why a search stopped, by a line to the notes, and answers the exit status. Where it came to no stop that is 0,
+/// Writes why a search stopped as a line to the notes, and answers the exit status. If it didn't stop, the status is 0
 /// and the notes take nothing. A fault of the notes changes nothing.
 pub(crate) fn tell_mask<E: Sink>(stop: Option<LoneStop<MaskRefusal>>, notes: &mut E) -> u8
     ensures status { result ≡ end_status stop }
     ensures memory { result ≡ 5 → stop ≡ Some (Run Memory) }
     ensures read_fault { result ≡ 6 → stop ≡ Some (Run ReadFault) }
+    ensures refused { result ≡ mask_status
+        → (refusal : MaskRefusal) × (stop ≡ Some (Unscoped refusal)) }
     ensures told { (words : List (List ℕ)) (told : Told) → IsSaidOf words told stop
         → TellsMask words told (E.seen notes.old) (E.seen notes.new) result }
 {

@@ -2,6 +2,7 @@
 ghost use Rattle.std.specs.Prelude.{◌≡◌, Some, map, string_bytes};
 ghost use Rattle.run_stop.specs.Outcomes.{ReadsNoData, LeavesAtFault};
 ghost use Rattle.run_stop.specs.Runs.{Alone};
+ghost use Rattle.lone_run.specs.Stops.{ReadsHeader};
 ghost use Rattle.psr_mask.specs.Masking.{mask_search};
 ghost use Rattle.psr_mask.specs.Outcome.{Outcome};
 ghost use Rattle.psr_mask.specs.Ends.{Ends, as_alone};
@@ -22,8 +23,7 @@ use lone_run::{
 };
 use run_stop::words_say_once;
 
-// What a search came to: its stop, or none where it went to its end; and what went through its data ring, where there
-// was one.
+// How a search ended: its stop, or none if it went to its end; and what went through its data ring, if there was one.
 #[derive(Drop)]
 struct Ended {
     stop: Option<LoneStop<MaskRefusal>>,
@@ -40,11 +40,11 @@ fn as_stop(stop: Option<Stop>) -> Option<LoneStop<MaskRefusal>>
     }
 }
 
-/// Searches the files that the words name for dispersed pulses and folded periods, without the channels that a mask
-/// names, and writes their text to `out`. The first word is the program's name, the second the mask text, which counts
-/// channels in the order of the file; the others are those of a search of one transfer, on this thread and without
-/// recording. It answers the exit status, and what went through the data ring, where there was one; where the status
-/// isn't 0, a line to `notes` says why. A fault of `notes` changes nothing. It may not end.
+/// Searches the files that the arguments name for dispersed pulses and folded periods, without the channels that a mask
+/// names, and writes their text to `out`. `words` are the program's name, the mask text, which counts channels in the
+/// order of the file, and the arguments of a search of one transfer, on this thread and without recording. Answers the
+/// exit status, and what went through the data ring, if there was one; if the status isn't 0, a line to `notes` says
+/// why. A fault of `notes` changes nothing. It may not end.
 pub fn run_mask<R: Wait, I: Inputs, K: Sink, E: Sink>(
     rt: &R,
     alloc: Global,
@@ -64,6 +64,9 @@ pub fn run_mask<R: Wait, I: Inputs, K: Sink, E: Sink>(
     ensures early { result.status ≡ 5
         → ReadsNoData (Alone (mask_search (map string_bytes words.now)))
         (map string_bytes words.now) (I.told inputs.old) (I.told inputs.new) }
+    ensures refused { result.status ≡ 12
+        → ReadsHeader (mask_search (map string_bytes words.now)) (map string_bytes words.now)
+        (I.told inputs.old) (I.told inputs.new) }
     ensures broken { result.status ≡ 6
         → LeavesAtFault (Alone (mask_search (map string_bytes words.now)))
         (map string_bytes words.now) (I.is_calm inputs.old) (I.told inputs.old)
@@ -74,7 +77,7 @@ pub fn run_mask<R: Wait, I: Inputs, K: Sink, E: Sink>(
     Ran { status, blocks }
 }
 
-// The same without the notes.
+// Searches as `run_mask` does, without the notes.
 fn search<R: Wait, I: Inputs, K: Sink>(
     rt: &R,
     alloc: Global,
@@ -92,6 +95,9 @@ fn search<R: Wait, I: Inputs, K: Sink>(
     ensures early { result.stop ≡ Some (LoneStop.Run Stop.Memory)
         → ReadsNoData (Alone (mask_search (map string_bytes words.now)))
         (map string_bytes words.now) (I.told inputs.old) (I.told inputs.new) }
+    ensures refused { (refusal : MaskRefusal) → result.stop ≡ Some (LoneStop.Unscoped refusal)
+        → ReadsHeader (mask_search (map string_bytes words.now)) (map string_bytes words.now)
+        (I.told inputs.old) (I.told inputs.new) }
     ensures broken { result.stop ≡ Some (LoneStop.Run Stop.ReadFault)
         → LeavesAtFault (Alone (mask_search (map string_bytes words.now)))
         (map string_bytes words.now) (I.is_calm inputs.old) (I.told inputs.old)

@@ -1,4 +1,4 @@
-// The words of a search without masked channels.
+// The arguments of a search without masked channels.
 ghost use Rattle.std.specs.Prelude.{◌≡◌, ◌≤◌, map, string_bytes, length, IfOk, IfErr, OnOk};
 ghost use Rattle.search_words.specs.Settings.{AllInRange, settings_seen};
 ghost use Rattle.run_stop.specs.Lone.{SayAlone, ExplainsAlone};
@@ -9,8 +9,8 @@ use lone_run::settings_after;
 use search_words::{Settings, WordFault};
 use std::alloc::Global;
 
-/// The settings of the search that the words say. The second of them is the mask text; it stands where the name of
-/// another program does, and is not read here.
+/// The settings of the search that the arguments give. The first argument is the mask text: it takes the place of
+/// another program's name, and is not read here.
 pub(crate) fn settings_of(alloc: Global, words: &[String]) -> Result<Settings, WordFault>
     ensures says { IfOk result (λ s.
         SayAlone (mask_search (map string_bytes words.now)) (map string_bytes words.now)
@@ -29,7 +29,7 @@ pub(crate) fn settings_of(alloc: Global, words: &[String]) -> Result<Settings, W
     }
 }
 
-/// The mask text among the words.
+/// The mask text among the arguments.
 pub(crate) fn mask_word(words: &[String]) -> MaskWord<'_>
     requires { 2 ≤ length words.now }
     ensures { result.text.now ≡ mask_word_of (map string_bytes words.now) }

@@ -42,7 +42,7 @@ fn write_text<K: Sink>(
     }
 }
 
-/// Writes the text of what was found, where all data were searched, and answers what the search came to.
+/// Writes the text of what was found, if all data were searched, and answers how the search ended.
 pub(crate) fn write_end<K: Sink>(
     search: &Search,
     feed: FeedEnd,

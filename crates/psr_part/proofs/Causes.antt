@@ -92,6 +92,41 @@ by_status P n (suc (suc (suc (suc (suc (suc (suc (suc (suc (suc (suc k))))))))))
     p10 p13 =
     absurd (omega (arith, below))
 
+-- ---- where no part goes on from the text of CHECK: nothing is said of other files
+
+module _ (words : List (List ℕ)) (is_calm : Type 0) (seen : PartSeen) (o : IsOutcome words is_calm seen)
+    (any : Checkpoint) (s : SettingsSeen) (says_any_one : SayAlone (part_search words any) words s)
+    (bytes : List ℕ) (named : check_text_of seen.inputs.told words ≡ Some bytes) (quiet : IsQuiet is_calm seen) where
+  refused : (GoesOnFrom seen.inputs.told words o.from → ⊥) → Answers seen.ran.status 13
+  refused never = by_status (λ k. seen.ran.status ≡ k → Answers seen.ran.status 13) seen.ran.status o.known
+      (λ e. absurd (never (o.accepted (0, lit< tt, sym e))))
+      (λ e. absurd (o.run.judged.refused e s (says_any words any o.from s says_any_one)))
+      (λ e. absurd (never (o.accepted (1, lit< tt, sym e))))
+      (λ e. absurd (never (o.accepted (2, lit< tt, sym e))))
+      (λ e. inr e)
+      (λ e. absurd (no_fault quiet e))
+      (λ e. absurd (never (o.accepted (3, lit< tt, sym e))))
+      (λ e. absurd (never (o.accepted (4, lit< tt, sym e))))
+      (λ e. absurd (never (o.accepted (5, lit< tt, sym e))))
+      (λ e. absurd (never (o.accepted (6, lit< tt, sym e))))
+      (λ e. inl e)
+      refl
+    where
+      no_fault : IsQuiet is_calm seen → seen.ran.status ≡ 6 → ⊥
+      no_fault (inl is) e = never (o.held is (holds_check seen.inputs.told words bytes named) e)
+      no_fault (inr still) e = still (o.run.read.failed e)
+
+  pub no_text : IsNoCheckpointText bytes → Answers seen.ran.status 13
+  no_text none = refused (λ goes. none o.from (goes.text bytes named))
+
+  pub no_place : TextsSayOne → (c : Checkpoint) → IsCheckpointText bytes c → until_in words ≤ c.place →
+      Answers seen.ran.status 13
+  no_place law c is late = refused (λ goes.
+      let same : o.from.place ≡ c.place =
+      ap (λ (k : Checkpoint). k.place) (one_said law bytes o.from c (goes.text bytes named) is) in
+      let before = goes.before in
+      omega (arith, late, same, before))
+
 -- ---- an outcome over files and a text of CHECK that are told
 
 module _ (words : List (List ℕ)) (is_calm : Type 0) (seen : PartSeen) (o : IsOutcome words is_calm seen)
@@ -117,35 +152,7 @@ module _ (words : List (List ℕ)) (is_calm : Type 0) (seen : PartSeen) (o : IsO
       (holds_all seen.inputs.told s.names files are) e
   not_six (inr still) e = still (o.run.read.failed e)
 
-  -- ---- where no part goes on from the text of CHECK
-
-  refused : IsQuiet is_calm seen → (GoesOnFrom seen.inputs.told words o.from → ⊥) → Answers n 13
-  refused quiet never = by_status (λ k. n ≡ k → Answers n 13) n o.known
-      (λ e. absurd (never (o.accepted (0, lit< tt, sym e))))
-      (λ e. absurd (o.run.judged.refused e s says))
-      (λ e. absurd (never (o.accepted (1, lit< tt, sym e))))
-      (λ e. absurd (never (o.accepted (2, lit< tt, sym e))))
-      (λ e. inr e)
-      (λ e. absurd (not_six quiet e))
-      (λ e. absurd (never (o.accepted (3, lit< tt, sym e))))
-      (λ e. absurd (never (o.accepted (4, lit< tt, sym e))))
-      (λ e. absurd (never (o.accepted (5, lit< tt, sym e))))
-      (λ e. absurd (never (o.accepted (6, lit< tt, sym e))))
-      (λ e. inl e)
-      refl
-
-  pub no_text : IsQuiet is_calm seen → IsNoCheckpointText bytes → Answers n 13
-  no_text quiet none = refused quiet (λ goes. none o.from (goes.text bytes named))
-
-  pub no_place : TextsSayOne → IsQuiet is_calm seen → (c : Checkpoint) → IsCheckpointText bytes c →
-      until_in words ≤ c.place → Answers n 13
-  no_place law quiet c is late = refused quiet (λ goes.
-      let same : o.from.place ≡ c.place =
-      ap (λ (k : Checkpoint). k.place) (one_said law bytes o.from c (goes.text bytes named) is) in
-      let before = goes.before in
-      omega (arith, late, same, before))
-
-  -- ---- where it does, from this checkpoint
+  -- ---- where a part goes on from this checkpoint
 
   module _ (law : TextsSayOne) (from : Checkpoint) (text : IsCheckpointText bytes from)
       (before : from.place < until_in words) where
@@ -376,10 +383,9 @@ causes_are_answered law is_calm not_refused = record {
   files = λ words seen o from check s files says are quiet.
       each words is_calm seen o from s files says are check.bytes check.named law from check.text check.before
       not_refused quiet;
-  checkpoint = λ words seen o from s files says are quiet. record {
-    form = λ bytes named none. no_text words is_calm seen o from s files says are bytes named quiet none;
-    place = λ bytes c named is late.
-        no_place words is_calm seen o from s files says are bytes named law quiet c is late;
+  checkpoint = λ words seen o from s says quiet. record {
+    form = λ bytes named none. no_text words is_calm seen o from s says bytes named quiet none;
+    place = λ bytes c named is late. no_place words is_calm seen o from s says bytes named quiet law c is late;
   };
 }
 

@@ -68,6 +68,12 @@ word_apart word.Refused h = (later_apart 2 h).0 refl
 word_apart (word.OutOfRange opt) h = (later_apart 2 h).0 refl
 word_apart word.Memory h = (later_apart 5 h).1 refl
 
+-- nor are they a fault of the inputs
+no_fault : (f : WordFault) → status_of (stop_of_words f) ≢ 6
+no_fault word.Refused six = omega (arith, six)
+no_fault (word.OutOfRange opt) six = omega (arith, six)
+no_fault word.Memory six = omega (arith, six)
+
 -- where none is accepted, any one serves
 no_checkpoint : Checkpoint
 no_checkpoint = record { place = 0; pulses = 0 }
@@ -103,14 +109,16 @@ module _ (words : List (List ℕ)) (inputs : InputsSeen) (is_calm : Type 0) wher
 
   pub at_stop : (from : Checkpoint) (blocks : Option Finished) (stop : Stop) (before after : SinkSeen) →
       EndsAlone 13 (part_search words from) words inputs Calm blocks stop →
-      (Contains later_statuses (status_of stop) → GoesOnFrom inputs.told words from) → after ≡ before →
-      Ends words inputs is_calm before after (Some (Run stop)) blocks
-  at_stop from blocks stop before after e accepted same =
+      (Contains later_statuses (status_of stop) → GoesOnFrom inputs.told words from) →
+      (is_calm → HoldsAll inputs.told (check_names words) → status_of stop ≡ 6 → GoesOnFrom inputs.told words from) →
+      after ≡ before → Ends words inputs is_calm before after (Some (Run stop)) blocks
+  at_stop from blocks stop before after e accepted held same =
       let least = e.least in
       let most = e.most in
       record {
         from = from;
         accepted = accepted;
+        held = held;
         known = Contains-append_right (0 ∷ []) (short_statuses ++ 9 ∷ 10 ∷ 13 ∷ []) (status_of stop)
             (Contains-append_left short_statuses (9 ∷ 10 ∷ 13 ∷ []) (status_of stop) e.known);
         written = none_written words from inputs.told (status_of stop) before after (λ is. omega (arith, is, least))
@@ -127,7 +135,8 @@ module _ (words : List (List ℕ)) (inputs : InputsSeen) (is_calm : Type 0) wher
   at_words law fault stop explains is same out =
       at_stop no_checkpoint None stop out out
       (law 13 (part_search words no_checkpoint) words inputs fault stop (explains no_checkpoint) is same)
-      (λ later. absurd (word_apart fault (subst (λ (x : Stop). Contains later_statuses (status_of x)) is later))) refl
+      (λ later. absurd (word_apart fault (subst (λ (x : Stop). Contains later_statuses (status_of x)) is later)))
+      (λ calm check six. absurd (no_fault fault (sym (ap status_of is) ∙ six))) refl
 
   -- the checkpoint is refused
   at_refusal : (from : Checkpoint) (blocks : Option Finished) (refusal : CheckpointRefusal) (before after : SinkSeen) →
@@ -137,6 +146,7 @@ module _ (words : List (List ℕ)) (inputs : InputsSeen) (is_calm : Type 0) wher
   at_refusal from blocks refusal before after run refused same = record {
     from = from;
     accepted = λ later. absurd ((later_apart 13 later).3 refl);
+    held = λ calm check six. absurd (omega (arith, six));
     known = (10, lit< tt, refl);
     written = none_written words from inputs.told 13 before after (λ is. omega (arith, is)) (λ is. omega (arith, is))
         same;
@@ -149,25 +159,26 @@ module _ (words : List (List ℕ)) (inputs : InputsSeen) (is_calm : Type 0) wher
   pub at_checkpoint : AloneBeforeSession Calm → AloneAtOwnStop Calm → (s : SettingsSeen) (until : ℕ) →
       until ≡ until_in words → ((from : Checkpoint) → SayAlone (part_search words from) words s) →
       (fault : CheckpointFault) → (fault ≡ check.Failed → CountsFaults inputs Calm s.names (ReadFault ≡ ReadFault)) →
+      (fault ≡ check.Failed → is_calm → HoldsAll inputs.told (check_names words) → ⊥) →
       (fault ≢ check.Failed → CountsFaults inputs Calm s.names ⊥) →
       (fault ≢ check.Failed → ForSome (check_text_of inputs.told words) (λ text. IsJudged text until (Err fault))) →
       ((place limit : ℕ) → fault ≡ check.Place place limit → (until ≡ limit) × (until ≤ place)) →
       (stop : PartStop) → stop ≡ stop_of_checkpoint fault → (out : SinkSeen) →
       Ends words inputs is_calm out out (Some stop) None
-  at_checkpoint before own s until same says check.Failed failed quiet judged late stop is out =
+  at_checkpoint before own s until same says check.Failed failed held quiet judged late stop is out =
       let lone = part_search words no_checkpoint in
       subst (λ (x : PartStop). Ends words inputs is_calm out out (Some x) None) (sym is)
       (at_stop no_checkpoint None ReadFault out out
       (before 13 lone words s inputs ReadFault (says no_checkpoint)
       (record { kind = tt; says = tt }) (failed refl))
-      (λ later. absurd ((later_apart 6 later).2 refl)) refl)
-  at_checkpoint before own s until same says check.Form failed quiet judged late stop is out =
+      (λ later. absurd ((later_apart 6 later).2 refl)) (λ calm check six. absurd (held refl calm check)) refl)
+  at_checkpoint before own s until same says check.Form failed held quiet judged late stop is out =
       let lone = part_search words no_checkpoint in
       subst (λ (x : PartStop). Ends words inputs is_calm out out (Some x) None) (sym is)
       (at_refusal no_checkpoint None Form out out
       (own 13 lone words s inputs (omega arith) (says no_checkpoint) (quiet (λ e. absurd cc)))
       (refl, (λ text told. (judged (λ e. absurd cc) text told).form.0 refl)) refl)
-  at_checkpoint before own s until same says (check.Place place limit) failed quiet judged late stop is out =
+  at_checkpoint before own s until same says (check.Place place limit) failed held quiet judged late stop is out =
       let lone = part_search words no_checkpoint in
       let other : check.Place place limit ≢ check.Failed = λ e. absurd cc in
       subst (λ (x : PartStop). Ends words inputs is_calm out out (Some x) None) (sym is)
@@ -227,6 +238,7 @@ module _ (words : List (List ℕ)) (inputs : InputsSeen) (is_calm : Type 0) wher
           record {
             from = from;
             accepted = λ later. goes;
+            held = λ calm check six. goes;
             known = (0, lit< tt, refl);
             written = record {
               text = λ e. text_of 0 late_one (λ text. WroteAll text before after) fits wrote;
@@ -248,6 +260,7 @@ module _ (words : List (List ℕ)) (inputs : InputsSeen) (is_calm : Type 0) wher
           record {
             from = from;
             accepted = λ later. goes;
+            held = λ calm check six. goes;
             known = (9, lit< tt, refl);
             written = record {
               text = λ e. absurd (omega (arith, e));
@@ -272,6 +285,7 @@ module _ (words : List (List ℕ)) (inputs : InputsSeen) (is_calm : Type 0) wher
           record {
             from = from;
             accepted = λ later. goes;
+            held = λ calm check six. goes;
             known = (8, lit< tt, refl);
             written = none_written words from inputs.told 9 before after (λ e. omega (arith, e))
                 (λ e. omega (arith, e)) same;
@@ -354,7 +368,7 @@ module _ (words : List (List ℕ)) (inputs : InputsSeen) (is_calm : Type 0) wher
         let e = stops 13 (part_search words from) words s0 inputs blocks end fed through is in
         let two = subst (λ (x : Option Stop). IfSome x (λ f. (stop ≡ Some (Run f)) × (after ≡ before))) is stopped in
         subst (λ (x : Option PartStop). Ends words inputs is_calm before after x (Some blocks)) (sym two.0)
-        (at_stop from (Some blocks) fed before after e (λ later. goes) two.1)
+        (at_stop from (Some blocks) fed before after e (λ later. goes) (λ calm check six. goes) two.1)
     after_session stops wholes before after stop stopped found None is =
         let w = whole_is end is in
         let f = found w.0 w.1 in
@@ -375,6 +389,7 @@ outcome words inputs is_calm out_before out_after notes_before notes_after stop 
     record {
       from = e.from;
       accepted = λ later. e.accepted (subst (λ n. Contains later_statuses n) is later);
+      held = λ calm check six. e.held calm check (sym is ∙ six);
       known = subst (λ n. Contains statuses n) (sym is) e.known;
       written = subst (λ n. WritesPart words e.from inputs.told out_before out_after n) (sym is) e.written;
       run = subst (λ n. RunsAlone 13 (part_search words e.from) words inputs

@@ -37,7 +37,8 @@ use Rattle.lone_run.specs.Stops.{FailsReading, StopsAlone}
 use Rattle.lone_run.specs.Found.{HasFoundAll, IsFoundAlone}
 use Rattle.lone_run.specs.EndLaws.{AloneBeforeSession, AloneAtOwnStop, AloneAtFeedStop, AloneAfterWhole}
 use Rattle.psr_part.specs.declared.stop.PartStop.{PartStop}
-use Rattle.psr_part.specs.declared.stop.PartStop.TheVariants.{Run}
+use Rattle.psr_part.specs.declared.stop.CheckpointRefusal.{CheckpointRefusal}
+use Rattle.psr_part.specs.declared.stop.PartStop.TheVariants.{Run, Refused}
 use Rattle.psr_part.specs.Texts.{stop_of_checkpoint}
 use Rattle.psr_part.specs.Part.{until_in, check_word, check_names, GoesOnFrom, part_search, searching}
 use Rattle.psr_part.specs.Outcome.{ReadsCheck, AfterCheck}
@@ -136,8 +137,24 @@ part_found s told found from until p u within bound unfolded range a b is count 
 
 -- want of memory before the session
 pub is_memory : {F : Type 0} (x : LoneStop F) (stop : Stop) → x ≡ lone.Run stop →
-    Some (Run stop) ≡ Some (Run Memory) → fails_so x ≡ fails_so (lone.Run Memory)
-is_memory x stop is same = let e : stop ≡ Memory = cc in ap fails_so (is ∙ ap lone.Run e)
+    Some (Run stop) ≡ Some (Run Memory) → x ≡ lone.Run Memory
+is_memory x stop is same = let e : stop ≡ Memory = cc in is ∙ ap lone.Run e
+
+-- CHECK was read where its checkpoint is refused
+pub check_read : {I : Type 0} (told : I → Told) (words : List (List ℕ)) (word : List ℕ) (old new : I)
+    (fault : CheckpointFault) (stop : PartStop) (refusal : CheckpointRefusal) → word ≡ check_word words →
+    (word ≡ new_word → new ≡ old) →
+    (word ≢ new_word → fails fault ≢ fails check.Failed →
+    OfFile (told old) word (λ file. ReadsFront most_read word file (told old) (told new))) →
+    (told new).bytes_under ≡ (told old).bytes_under → stop ≡ stop_of_checkpoint fault →
+    Some stop ≡ Some (Refused refusal) → ReadsCheck words (told old) (told new)
+check_read told words word old new fault stop refusal is none front names of same =
+    reads_check told words word old new is none (λ other. front other (not_failed fault of)) names
+  where
+    not_failed : (f : CheckpointFault) → stop ≡ stop_of_checkpoint f → fails f ≢ fails check.Failed
+    not_failed check.Failed at e = absurd cc
+    not_failed check.Form at e = absurd cc
+    not_failed (check.Place place until) at e = absurd cc
 
 pub with_blocks : (words : List (List ℕ)) (inputs : InputsSeen) (is_calm : Type 0) (before after : SinkSeen)
     (stop : Option PartStop) (blocks : Finished) (all : Option Finished) → all ≡ Some blocks →
@@ -179,6 +196,8 @@ module _ {I : Type 0} (told : I → Told) (is_calm : I → Type 0) (faults : I �
       (λ failed. counts_failed told is_calm faults _ old new s.names Calm read (ap fails failed)
       (λ calm. serves calm.0 (subst (λ (x : List ℕ). IsSome (named_text (told old) x)) (sym is)
       (check_held (told old) words calm.1)) (ap fails failed)))
+      (λ failed calm held. serves calm (subst (λ (x : List ℕ). IsSome (named_text (told old) x)) (sym is)
+      (check_held (told old) words held)) (ap fails failed))
       (λ not. counts_none told is_calm faults _ old new s.names Calm read (λ e. not (inner fault check.Failed e)))
       (λ not. subst (λ (x : List ℕ). ForSome (named_text (told old) x) (λ text. IsJudged text until (fails fault))) is
       (judged (λ e. not (inner fault check.Failed e))))
@@ -201,20 +220,20 @@ module _ {I : Type 0} (told : I → Told) (is_calm : I → Type 0) (faults : I �
         (law 13 (part_search words from) words s (seen new) stop says
         (stops_before (part_search words from) words (told old) (told mid) first.names stop stops)
         (counts_through told is_calm faults First (stop ≡ ReadFault) old mid new s.names (check_names words) first not
-        more serves)) (λ later. goes) refl
+        more serves)) (λ later. goes) (λ calm check six. goes) refl
 
-    pub where_lone : {F : Type 0} (scopes : Observation → Search → Scope → Type 0) (refuses : Observation → F → Type 0)
+    pub where_lone : {F : Type 0} (accepts : Observation → Type 0) (refuses : Observation → F → Type 0)
         (x : LoneStop F) (stop : Stop) → x ≡ lone.Run stop →
         HasReadFrom told is_calm faults (FailsReading (fails_so x)) mid new →
         (is_calm mid → HoldsAll (told mid) s.names → FailsReading (fails_so x) → ⊥) →
-        StopsAlone scopes refuses (part_search words from) words (told mid) x → AloneBeforeSession Calm →
+        StopsAlone accepts refuses (part_search words from) words (told mid) x → AloneBeforeSession Calm →
         (out : SinkSeen) → Ends words (seen new) (is_calm old) out out (Some (Run stop)) None
-    where_lone {F} scopes refuses x stop is more serves stops law out =
+    where_lone {F} accepts refuses x stop is more serves stops law out =
         where_stopped stop
         (subst (λ (y : LoneStop F). HasReadFrom told is_calm faults (FailsReading (fails_so y)) mid new) is more)
         (subst (λ (y : LoneStop F). is_calm mid → HoldsAll (told mid) s.names → FailsReading (fails_so y) → ⊥) is
         serves)
-        (subst (λ (y : LoneStop F). StopsAlone scopes refuses (part_search words from) words (told mid) y) is stops).0
+        (subst (λ (y : LoneStop F). StopsAlone accepts refuses (part_search words from) words (told mid) y) is stops).0
         law out
 
     -- or its session went through

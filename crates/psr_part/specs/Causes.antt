@@ -82,13 +82,13 @@ pub record RefusedIsAnswered (is_calm : Type 0) (words : List (List ℕ)) (seen 
       check_text_of seen.inputs.told words ≡ Some bytes → IsCheckpointText bytes c →
       until_in words ≤ c.place → Answers seen.ran.status 13
 
--- So it is over inputs that are calm and hold all files, or that count no fault.
+-- So it is over inputs that are calm and hold all files, or that count no fault. Of a text of CHECK that is refused no
+-- other file need be told.
 pub record CausesAreAnswered (is_calm : Type 0) : Type 0 where
   pub files : ForOutcomes is_calm (λ words seen from s w.
       IsQuiet is_calm seen → EachIsAnswered words from s w seen.ran.status)
   pub checkpoint : (words : List (List ℕ)) (seen : PartSeen) → IsOutcome words is_calm seen →
-      (from : Checkpoint) (s : SettingsSeen) (files : List (List ℕ)) →
-      SayAlone (part_search words from) words s → AreTold seen.inputs.told s.names files →
+      (from : Checkpoint) (s : SettingsSeen) → SayAlone (part_search words from) words s →
       IsQuiet is_calm seen → RefusedIsAnswered is_calm words seen
 
 -- Who told enough room has no fault: 10 never comes where the output told room for the text, and the files are told.

@@ -77,6 +77,8 @@ pub record Ends (words : List (List ℕ)) (inputs : InputsSeen) (is_calm : Type 
     Type 0 where
   pub from : Checkpoint
   pub accepted : Contains later_statuses (end_status stop) → GoesOnFrom inputs.told words from
+  pub held : is_calm → HoldsAll inputs.told (check_names words) → end_status stop ≡ 6 →
+      GoesOnFrom inputs.told words from
   pub known : Contains statuses (end_status stop)
   pub written : WritesPart words from inputs.told out_before out_after (end_status stop)
   pub run : RunsAlone 13 (part_search words from) words inputs

@@ -100,6 +100,9 @@ pub record Outcome (words : List (List ℕ)) (inputs : InputsSeen) (is_calm : Ty
   -- the checkpoint that the part goes on from
   pub from : Checkpoint
   pub accepted : Contains later_statuses ran.status → GoesOnFrom inputs.told words from
+  -- calm inputs that hold CHECK fail only after it is accepted
+  pub held : is_calm → HoldsAll inputs.told (check_names words) → ran.status ≡ 6 →
+      GoesOnFrom inputs.told words from
   -- there is no other status; 5 is want of memory, before the session alone
   pub known : Contains statuses ran.status
   -- the headline: the output has grown by exactly the text of the part
@@ -111,7 +114,7 @@ pub record Outcome (words : List (List ℕ)) (inputs : InputsSeen) (is_calm : Ty
   pub too_many : ran.status ≡ 9 → ForPart words from inputs.told (IsCrowded words from)
   pub noted : TellsPart words from inputs.told ran.blocks notes_before notes_after ran.status
 
--- ---- what was read at want of memory, and what a fault of the inputs leaves
+-- ---- what was read at want of memory and at a refusal, and what a fault of the inputs leaves
 
 -- CHECK was read, and nothing else: of a file that it names the first 65 bytes, or all of fewer and their end
 pub record ReadsCheck (words : List (List ℕ)) (before after : Told) : Type 0 where

@@ -10,8 +10,8 @@ use run_stop::{accepted_goes_on, accepted_is_not_refused};
 use search_model::{candidates_rise, parts_join};
 use warm_restart::{lines_are_read_back, part_texts_join, texts_say_one};
 
-/// Words, a checkpoint, headers and data that are accepted are searched, or there is no memory, where neither the
-/// inputs nor the output count a fault.
+/// If arguments, a checkpoint, headers and data are accepted, they are searched, or there is no memory, provided that
+/// neither the inputs nor the output count a fault.
 pub fn accepted_is_searched<I: Inputs>()
     ensures { (inputs : I) → AcceptedIsSearched (I.is_calm inputs) }
 {
@@ -19,9 +19,9 @@ pub fn accepted_is_searched<I: Inputs>()
     accepted_goes_on::<I>();
 }
 
-/// What stands against a search whose words are accepted is answered, over inputs that are calm and hold all files, or
-/// that count no fault: a checkpoint that is refused by 13; from one that is accepted, a refused first header by 3, a
-/// refused search by 4, the stop of the walk of the files by its status, a place behind all data by 13, and too many
+/// What stands against a search whose arguments are accepted is answered, over inputs that are calm and hold all files,
+/// or that count no fault: a checkpoint that is refused by 13; from one that is accepted, a refused first header by 3,
+/// a refused search by 4, the stop of the walk of the files by its status, a place behind all data by 13, and too many
 /// pulses by 9; or there is no memory.
 pub fn causes_are_answered<I: Inputs>()
     ensures { (inputs : I) → CausesAreAnswered (I.is_calm inputs) }
@@ -30,15 +30,15 @@ pub fn causes_are_answered<I: Inputs>()
     accepted_is_not_refused();
 }
 
-/// Where the files are told that are read, 10 never comes over an output that told enough room for the text.
+/// If the files that are read are told, 10 never comes over an output that told enough room for the text.
 pub fn told_room_is_enough<I: Inputs>()
     ensures { (inputs : I) → ToldRoomIsEnough (I.is_calm inputs) }
 {
     texts_say_one();
 }
 
-/// Searches of parts, each of which goes on from the CHECK line of the one before it, write the text of the whole search,
-/// but for these lines: any number of them, of which the first begins with `new`.
+/// Searches of parts, each of which goes on from the CHECK line of the one before it, write the text of the whole
+/// search, except for these lines. There may be any number of parts, and the first begins with `new`.
 pub fn parts_are_joined<I: Inputs>()
     ensures { (inputs : I) → PartsAreJoined (I.is_calm inputs) }
 {

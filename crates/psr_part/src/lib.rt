@@ -1,4 +1,6 @@
-//! The search of a part of an observation, which is taken up where a search before it stopped.
+//! The search of a part of an observation, which goes on where an earlier search stopped: `run_part` is the whole
+//! program `psr_part`, over inputs and streams of the caller's; `run_part_in_memory` is `run_part` over those in
+//! memory.
 #![tactic(auto)]
 
 mod in_memory;

@@ -4,6 +4,7 @@ ghost use Rattle.warm_restart.specs.Warm.{part_scope as part_scope_of};
 
 use lone_run::{ScopeFault, Scoping};
 use obs_plan::Observation;
+use psr_base::Memory;
 use search_engine::Scope;
 use search_model::Search;
 use std::alloc::Global;
@@ -20,7 +21,7 @@ pub(crate) struct PartScope {
 }
 
 impl PartScope {
-    /// Those of a part.
+    /// The scope of a part.
     pub(crate) fn of(place: u64, until: u64) -> PartScope
         requires early { place ≤ 2 ^ 48 }
         requires few { until ≤ 2 ^ 48 }
@@ -32,18 +33,35 @@ impl PartScope {
 }
 
 impl Scoping for PartScope {
+    ghost use Rattle.std.specs.Prelude.{⊤};
+
     type Refusal = Infallible;
+
+    type Accepted = ();
+
+    ghost accepts = { λ part o. ⊤ };
+
+    ghost refuses = { λ part o refusal. ⊥ };
+
+    ghost keeps = { λ part o nothing. ⊤ };
 
     ghost scopes = { λ part o s scope. scope ≡ part_scope_of o s part.place part.until };
 
-    ghost refuses = { λ part o refusal. ⊥ };
+    fn judge(
+        &self,
+        _alloc: Global,
+        _observation: &Observation,
+    ) -> Result<(), ScopeFault<Infallible>> {
+        Ok(())
+    }
 
     fn scope(
         &self,
         _alloc: Global,
         observation: &Observation,
         search: &Search,
-    ) -> Result<Scope, ScopeFault<Infallible>> {
+        _accepted: (),
+    ) -> Result<Scope, Memory> {
         Ok(part_scope(observation, search, self.place, self.until))
     }
 }

@@ -6,21 +6,23 @@ use run_stop::Stop;
 use text_line::Line;
 use warm_restart::CheckpointFault;
 
-/// Why no part goes on from a checkpoint, in the order in which it is judged. Places and counts are in spectra.
+/// Why no part goes on from a checkpoint, in the order in which causes are judged. Places and counts are in spectra.
 #[derive(Clone, Copy, Debug, PartialEq, Eq)]
 pub enum CheckpointRefusal {
     /// The text isn't exactly one CHECK line.
     Form,
-    /// The part would stop before spectrum `until`, and so before it begins, at spectrum `place`.
+    /// The part would stop before spectrum `until`, which is not after spectrum `place`, where it begins.
     Place { place: u64, until: u64 },
-    /// The checkpoint stands at `place`, after the last of the data's spectra, of which there are so many.
+    /// The checkpoint is at `place`, after the last of the data's `spectra` spectra.
     Beyond { place: u64, spectra: u64 },
 }
 
-/// Why the search of a part ended without all that it was asked for: as any run, or since its checkpoint is refused.
+/// Why the search of a part ended without all that it was asked for.
 #[derive(Clone, Copy, Debug, PartialEq, Eq)]
 pub enum PartStop {
+    /// As any run can stop.
     Run(Stop),
+    /// Its checkpoint is refused.
     Refused(CheckpointRefusal),
 }
 
@@ -41,7 +43,7 @@ fn numbers_line(name: &str, first: u64, second: u64) -> Line
 impl CheckpointRefusal {
     ghost use Rattle.psr_part.specs.Texts.{refusal_text};
 
-    /// The line that tells the user.
+    /// The line on standard error.
     pub fn note(self) -> Line
         ensures { result ≡ refusal_text self }
     {
@@ -64,7 +66,7 @@ impl CheckpointRefusal {
 impl PartStop {
     ghost use Rattle.psr_part.specs.Texts.{stop_of_checkpoint};
 
-    /// The stop where no checkpoint was read.
+    /// The stop if no checkpoint was read.
     pub(crate) fn of_checkpoint(fault: CheckpointFault) -> PartStop
         ensures { result ≡ stop_of_checkpoint fault }
     {

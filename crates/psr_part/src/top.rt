@@ -1,8 +1,9 @@
 // The top call.
-ghost use Rattle.std.specs.Prelude.{◌≡◌, Some, map, string_bytes};
+ghost use Rattle.std.specs.Prelude.{◌≡◌, Some, None, map, string_bytes};
 ghost use Rattle.run_stop.specs.declared.stop.Stop.TheVariants.{Memory, ReadFault};
-ghost use Rattle.psr_part.specs.declared.stop.PartStop.TheVariants.{Run};
-ghost use Rattle.psr_part.specs.Outcome.{Outcome, ReadsNoData, LeavesAtFault};
+ghost use Rattle.psr_part.specs.declared.stop.CheckpointRefusal.{CheckpointRefusal};
+ghost use Rattle.psr_part.specs.declared.stop.PartStop.TheVariants.{Run, Refused};
+ghost use Rattle.psr_part.specs.Outcome.{Outcome, ReadsCheck, ReadsNoData, LeavesAtFault};
 ghost use Rattle.psr_part.specs.Ends.{Ends};
 
 use crate::scope::PartScope;
@@ -23,11 +24,11 @@ use lone_run::{
 };
 use run_stop::words_say_once;
 
-/// Searches a part of the observation of the files that the words name, from a checkpoint on, and writes its text to
-/// `out`. After the program's name stand UNTIL, the spectrum that the part stops before, and CHECK: `new`, or the name
-/// of a file with the line CHECK that an earlier part ended with; then the words of a search. All data are read. It
-/// answers the exit status, and what went through the data ring, where there was one; where the status isn't 0, a line
-/// to `notes` says why. A fault of `notes` changes nothing. It may not end.
+/// Searches a part of the observation of the files that the arguments name, from a checkpoint on, and writes its text
+/// to `out`. `words` are the program's name and its arguments: UNTIL, the spectrum that the part stops before; CHECK,
+/// which is `new` or the name of a file with the CHECK line that an earlier part ended with; and the arguments of a
+/// search. All data are read. Answers the exit status, and what went through the data ring, if there was one; if the
+/// status isn't 0, a line to `notes` says why. A fault of `notes` changes nothing. It may not end.
 pub fn run_part<R: Wait, I: Inputs, K: Sink, E: Sink>(
     rt: &R,
     alloc: Global,
@@ -46,6 +47,8 @@ pub fn run_part<R: Wait, I: Inputs, K: Sink, E: Sink>(
         (E.seen notes.new) result }
     ensures early { result.status ≡ 5
         → ReadsNoData (map string_bytes words.now) (I.told inputs.old) (I.told inputs.new) }
+    ensures refused { result.status ≡ 13 → result.blocks ≡ None
+        → ReadsCheck (map string_bytes words.now) (I.told inputs.old) (I.told inputs.new) }
     ensures broken { result.status ≡ 6 → LeavesAtFault (map string_bytes words.now)
         (I.is_calm inputs.old) (I.told inputs.old) (I.told inputs.new) result.blocks }
 {
@@ -64,7 +67,7 @@ fn stop_of_run(stop: LoneStop<Infallible>) -> Stop
     }
 }
 
-// The same without the notes.
+// Searches as `run_part` does, without the notes.
 fn search<R: Wait, I: Inputs, K: Sink>(
     rt: &R,
     alloc: Global,
@@ -81,6 +84,9 @@ fn search<R: Wait, I: Inputs, K: Sink>(
         (I.is_calm inputs.old) (K.seen out.old) (K.seen out.new) result.stop result.blocks }
     ensures early { result.stop ≡ Some (Run Memory)
         → ReadsNoData (map string_bytes words.now) (I.told inputs.old) (I.told inputs.new) }
+    ensures refused { (refusal : CheckpointRefusal) → result.stop ≡ Some (Refused refusal)
+        → result.blocks ≡ None
+        → ReadsCheck (map string_bytes words.now) (I.told inputs.old) (I.told inputs.new) }
     ensures broken { result.stop ≡ Some (Run ReadFault) → LeavesAtFault (map string_bytes words.now)
         (I.is_calm inputs.old) (I.told inputs.old) (I.told inputs.new) result.blocks }
 {

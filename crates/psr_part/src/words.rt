@@ -1,4 +1,4 @@
-// The words of a search of a part.
+// The arguments of a search of a part.
 ghost use Rattle.std.specs.Prelude.{◌≡◌, ◌<◌, ◌≤◌, true, false, Some, length, map, string_bytes, IfSome, IfNone, IfOk, IfErr};
 ghost use Rattle.search_words.specs.Settings.{AllInRange, settings_seen};
 ghost use Rattle.warm_restart.specs.declared.checkpoint.Checkpoint.{Checkpoint};
@@ -12,14 +12,14 @@ use search_words::{Settings, WordFault};
 use std::alloc::Global;
 use warm_restart::until_of_word;
 
-/// What the words say: the spectrum before which the part stops, and the settings of its search.
+/// What the arguments give: the spectrum before which the part stops, and the settings of its search.
 #[derive(Drop)]
 pub(crate) struct PartWords {
     pub(crate) until: u64,
     pub(crate) settings: Settings,
 }
 
-// The spectrum before which a part stops, by words of its form.
+// The spectrum before which a part stops, if the argument UNTIL has its form.
 fn until_said(words: &[String]) -> Option<u64>
     ensures form { IfSome result (λ until. has_form (map string_bytes words.now) ≡ true) }
     ensures there { IfSome result (λ until. 2 < length words.now) }
@@ -42,7 +42,7 @@ fn is_unfolded(search: &Search) -> bool
     search.fold_max < search.fold_min
 }
 
-/// The word CHECK.
+/// The argument CHECK.
 pub(crate) fn check_of(words: &[String]) -> &str
     requires { 2 < length words.now }
     ensures { result.now ≡ check_word (map string_bytes words.now) }
@@ -50,7 +50,7 @@ pub(crate) fn check_of(words: &[String]) -> &str
     words[2].as_str()
 }
 
-/// What the words of a search of a part say: UNTIL and its form are judged first, and last that nothing is folded.
+/// What the arguments of a search of a part give. The form of UNTIL is judged first, and last that nothing is folded.
 pub(crate) fn part_words(alloc: Global, words: &[String]) -> Result<PartWords, WordFault>
     ensures there { IfOk result (λ said. 2 < length words.now) }
     ensures until { IfOk result (λ said.

@@ -16,8 +16,8 @@ use run_stop::Stop;
 use search_model::Search;
 use warm_restart::{Checkpoint, Warm};
 
-/// What a search of a part came to: its stop, or none where it went to its end; and what went through its data ring,
-/// where there was one.
+/// How a search of a part ended: its stop, or none if it went to its end; and what went through its data ring, if there
+/// was one.
 #[derive(Drop)]
 pub(crate) struct Ended {
     pub(crate) stop: Option<PartStop>,
@@ -55,7 +55,7 @@ fn write_text<K: Sink>(
     }
 }
 
-// The same where all data were searched; and else what stopped the feeder.
+// Writes the text of a part if all data were searched; otherwise answers what stopped the feeder.
 fn write_end<K: Sink>(
     warm: &Warm,
     observation: &Observation,
@@ -82,8 +82,8 @@ fn write_end<K: Sink>(
     }
 }
 
-/// Writes the text of the part from a checkpoint on that stops before spectrum `until`, where all data were searched,
-/// and answers what the search came to.
+/// Writes the text of the part that begins at a checkpoint and stops before spectrum `until`, if all data were
+/// searched, and answers how the search ended.
 pub(crate) fn finish<K: Sink>(
     search: &Search,
     checkpoint: Checkpoint,

@@ -1,15 +1,16 @@
-use Rattle.std.proofs.Common.{◌≡◌, List, ℕ, Some, Result, Err, refl, sym, ◌∙◌, ap, subst, map}
-use Rattle.std.specs.Prelude.{string_bytes}
+use Rattle.std.proofs.Common.{◌≡◌, List, ℕ, None, Some, refl, sym, ◌∙◌, subst, map}
+use Rattle.std.specs.Prelude.{Option, string_bytes}
 use Rattle.search_words.specs.Settings.{settings_seen}
 use Rattle.channel_mask.specs.Masks.{mask_of}
 use Rattle.run_stop.specs.Conversions.{stop_of_feed}
+use Rattle.run_stop.specs.declared.stop.Stop.{Stop}
 use Rattle.run_stop.specs.declared.stop.Stop.TheVariants.{Memory}
-use Rattle.lone_run.specs.declared.found.LoneFound.{LoneFound}
 use Rattle.lone_run.specs.declared.stop.LoneStop.{LoneStop}
-use Rattle.lone_run.specs.declared.stop.LoneStop.TheVariants.{Run}
+use Rattle.lone_run.specs.declared.stop.LoneStop.TheVariants.{Run, Unscoped}
 use Rattle.lone_run.specs.Found.{IsFoundAlone}
-use Rattle.lone_run.specs.Stops.{StopsAlone}
-use Rattle.psr_mask.specs.Masking.{mask_search, mask_word, RefusesMask, ScopesMask}
+use Rattle.lone_run.specs.Stops.{ReadsBefore, StopsAlone}
+use Rattle.psr_mask.specs.Ends.{as_alone}
+use Rattle.psr_mask.specs.Masking.{mask_search, mask_word, AcceptsMask, RefusesMask, ScopesMask}
 use Rattle.psr_mask.specs.declared.refusal.MaskRefusal.{MaskRefusal}
 use Rattle.psr_mask.proofs.Faults.{not_words, fails, of_alone}
 use Rattle.psr_mask.proofs.Endings.{at_words, before_session, after_session, answered_so, holds, memory_is_early}
@@ -63,9 +64,10 @@ returns-clause-ends g c =
     let stop = c.in-Err-drive_alone.stop in
     before_session words _ _ s says (c.alone_before_session.ensures.plain c.args.inputs.now)
     (c.alone_at_own_stop.ensures.plain c.args.inputs.now) stop _
-    (subst (λ (text : List ℕ). StopsAlone (ScopesMask text) (RefusesMask text) (mask_search words) words told stop)
+    (subst (λ (text : List ℕ). StopsAlone (AcceptsMask text) (RefusesMask text) (mask_search words) words told stop)
     c.mask_word.ensures (r.stopped (mask_search words) words says))
     (record { rose = r.inputs.rose; quiet = r.inputs.quiet; count = r.inputs.count; serves = r.serves })
+    (g.I.Inputs.told c.drive_alone.new.inputs) (λ failed. r.broken failed (mask_search words) words says)
 
 pub returns-in-Ok-drive_alone-clause-early : goal.returns-in-Ok-drive_alone-clause-early
 returns-in-Ok-drive_alone-clause-early g c = λ is.
@@ -77,9 +79,28 @@ one_stop a b e = cc
 pub returns-clause-early : goal.returns-clause-early
 returns-clause-early g c = λ is.
     let words = map string_bytes c.args.words.now in
-    let as_error : LoneStop MaskRefusal → Result LoneFound (LoneStop MaskRefusal) = λ x. Err x in
-    c.in-Err-drive_alone.ensures.unread (ap as_error (one_stop c.in-Err-drive_alone.stop (Run Memory) is))
-    (mask_search words) words c.in-Ok.ensures.says
+    let told = g.I.Inputs.told in
+    subst (λ x. ReadsBefore (mask_search words) words (told c.args.inputs.now) (told c.drive_alone.new.inputs) x)
+    (one_stop c.in-Err-drive_alone.stop (Run Memory) is)
+    (c.in-Err-drive_alone.ensures.unread (mask_search words) words c.in-Ok.ensures.says) refl
+
+-- ---- what was read where the mask is refused
+
+pub returns-clause-refused : goal.returns-clause-refused
+returns-clause-refused g c = λ refusal is.
+    let words = map string_bytes c.args.words.now in
+    let told = g.I.Inputs.told in
+    subst (λ x. ReadsBefore (mask_search words) words (told c.args.inputs.now) (told c.drive_alone.new.inputs) x)
+    (one_stop c.in-Err-drive_alone.stop (Unscoped refusal) is)
+    (c.in-Err-drive_alone.ensures.unread (mask_search words) words c.in-Ok.ensures.says)
+
+pub returns-in-Ok-drive_alone-clause-refused : goal.returns-in-Ok-drive_alone-clause-refused
+returns-in-Ok-drive_alone-clause-refused g c = λ refusal is.
+    absurd (no_refusal c.write_end-stop.result refusal (sym c.as_stop.ensures ∙ is))
+  where
+    no_refusal : (stop : Option Stop) (refusal : MaskRefusal) → as_alone stop ≡ Some (Unscoped refusal) → ⊥
+    no_refusal None refusal e = cc
+    no_refusal (Some stop) refusal e = cc
 
 -- ---- what a fault of the inputs leaves
 

@@ -1,11 +1,12 @@
-use Rattle.std.proofs.Common.{◌≡◌, Some, None, inr, refl, map}
-use Rattle.std.specs.Prelude.{string_bytes}
+use Rattle.std.proofs.Common.{◌≡◌, Some, None, inr, refl, subst, map}
+use Rattle.std.specs.Prelude.{⊤, Option, string_bytes}
+use Rattle.ring_ends.specs.declared.finished.Finished.{Finished}
 use Rattle.psr_part.proofs.Endings.{at_words}
 use Rattle.run_stop.specs.Outcomes as runs
-use Rattle.warm_restart.specs.Warm.{part_scope}
-use Rattle.psr_part.specs.Part.{check_names, searching}
+use Rattle.lone_run.specs.Stops.{ReadsBefore}
+use Rattle.psr_part.specs.Part.{check_names, part_search, searching}
 use Rattle.psr_part.proofs.Said.{until_is}
-use Rattle.psr_part.proofs.Runs.{goes_on, never, after_check, part_found, is_memory, with_blocks, where_refused, where_lone, where_driven}
+use Rattle.psr_part.proofs.Runs.{goes_on, never, after_check, part_found, is_memory, check_read, with_blocks, where_refused, where_lone, where_driven}
 use Rattle.psr_part.proofs.Moved.{where_calm}
 use Rattle.psr_part.proofs.Faults.{not_words, not_memory, at_check, fails, with_them}
 use Rattle.psr_part.proofs.top.search.Goals as goal
@@ -88,7 +89,7 @@ returns-clause-ends g c =
     c.drive_alone.new.inputs _ _ from
     (goes_on told words c.check_of.result.now until from c.check_of.ensures same read.within.1 read.judged) says
     read.inputs
-    (never from) (λ o s scope. scope ≡ part_scope o s c.of-scope.result.place c.of-scope.result.until)
+    (never from) (λ o. ⊤)
     (λ o refusal. ⊥) c.in-Err-drive_alone.stop c.stop_of_run.result c.stop_of_run.ensures driven.inputs driven.serves
     (driven.stopped _ _ says) (c.alone_before_session.ensures.with_more c.args.inputs.now told (check_names words)) _
 
@@ -140,9 +141,27 @@ returns-clause-early g c = λ is.
     c.read_checkpoint.new.inputs c.check_of.ensures (until_is words until c.in-Ok.ensures.until) read.within.1
     read.judged (λ new. (read.new new).0) read.read read.inputs.names
     (λ x told. runs.ReadsNoData (searching words x) words told (g.I.Inputs.told c.drive_alone.new.inputs))
-    (c.in-Err-drive_alone.ensures.unread
-    (is_memory c.in-Err-drive_alone.stop c.stop_of_run.result c.stop_of_run.ensures is) _ words
-    (c.in-Ok.ensures.says from)))
+    (subst (λ x. ReadsBefore (part_search words from) words (g.I.Inputs.told c.read_checkpoint.new.inputs)
+    (g.I.Inputs.told c.drive_alone.new.inputs) x)
+    (is_memory c.in-Err-drive_alone.stop c.stop_of_run.result c.stop_of_run.ensures is)
+    (c.in-Err-drive_alone.ensures.unread (part_search words from) words (c.in-Ok.ensures.says from)) refl))
+
+-- ---- what was read where the checkpoint is refused
+
+pub returns-in-Err-read_checkpoint-clause-refused : goal.returns-in-Err-read_checkpoint-clause-refused
+returns-in-Err-read_checkpoint-clause-refused g c = λ refusal is none.
+    let words = map string_bytes c.args.words.now in
+    let read = c.in-Err-read_checkpoint.ensures in
+    check_read g.I.Inputs.told words c.check_of.result.now c.args.inputs.now c.read_checkpoint.new.inputs
+    c.in-Err-read_checkpoint.fault c.of_checkpoint.result refusal c.check_of.ensures (λ new. (read.new new).0) read.read
+    read.inputs.names c.of_checkpoint.ensures is
+
+pub returns-in-Ok-drive_alone-clause-refused : goal.returns-in-Ok-drive_alone-clause-refused
+returns-in-Ok-drive_alone-clause-refused g c = λ refusal is none.
+    absurd (no_blocks c.in-Ok-drive_alone.found.blocks c.finish.result.blocks c.finish.ensures.blocks none)
+  where
+    no_blocks : (b : Finished) (blocks : Option Finished) → blocks ≡ Some b → blocks ≡ None → ⊥
+    no_blocks b blocks some none = cc
 
 pub returns-clause-broken : goal.returns-clause-broken
 returns-clause-broken g c = λ is.
