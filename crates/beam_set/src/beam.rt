@@ -13,11 +13,11 @@ use search_engine::Engine;
 use search_model::MOST_TRANSFERS;
 use search_session::{Bank, Gate, LoneEnd, LoneSession};
 
-/// How many beams a set has at most.
+/// The largest number of beams of a set.
 pub const MOST_BEAMS: usize = 7;
 
 /// A beam of a set: its feeder and the reader of its one engine, over rings of its own. It holds no inputs: they are
-/// lent to it at each turn, always the same ones.
+/// lent to it at each turn, always the same inputs.
 #[derive(Drop)]
 pub struct Beam<'a> {
     pub(crate) lone: LoneSession<'a>,
@@ -45,8 +45,8 @@ fn engine_of(bank: Bank) -> Engine
 
 impl<'a> Beam<'a> {
     /// Takes one turn: the feeder seals one block from the inputs, or finds the ring full, and then the reader takes
-    /// one block, which the engine is fed, each unless it ended. The gate knows the beam by its number. Answers whether
-    /// both ended. It takes no memory, and does not wait.
+    /// one block and feeds it to the engine, each unless it ended. The gate is called with the beam's number. Answers
+    /// whether both ended. It takes no memory, and does not wait.
     pub fn turn<I: Inputs, G: Gate>(&mut self, inputs: &mut I, gate: &G, number: u32) -> bool
         requires on { BeamOn (I.told inputs.old) self.old }
         requires file { HasBeamFile I.is_open inputs.old self.old }
@@ -59,7 +59,7 @@ impl<'a> Beam<'a> {
         self.lone.turn(inputs, gate, number)
     }
 
-    /// Takes so many turns, or fewer where both ended.
+    /// Takes `turns` turns, or fewer if both ended.
     pub(crate) fn drive<I: Inputs, G: Gate>(
         &mut self,
         inputs: &mut I,
@@ -77,7 +77,7 @@ impl<'a> Beam<'a> {
         self.lone.drive(inputs, gate, number, turns);
     }
 
-    /// Whether both its feeder and its reader ended.
+    /// Whether both the feeder and the reader ended.
     pub fn has_ended(&self) -> bool
         ensures { IsTrue result ↔ HasBeamEnded self.now }
     {

@@ -2,10 +2,13 @@
 use candidate_book::Book;
 use disk_feeder::FeedEnd;
 
-/// What a beam ends with: how its files ended, the book of its candidates, and how many spectra were searched.
+/// How a beam ended.
 #[derive(Drop)]
 pub struct BeamEnd {
+    /// How its files ended.
     pub feed: FeedEnd,
+    /// The book of its candidates.
     pub book: Book,
+    /// How many spectra were searched.
     pub spectra: u64,
 }

@@ -9,7 +9,8 @@ use crate::marks::marked_among;
 use candidate_book::{LineLabels, PulseWord};
 use obs_plan::Observation;
 
-/// So many cells as there are channels and spectra of delay, and `RFI` for a pulse that is taken for interference.
+/// Labels with as many cells as there are channels and spectra of delay together, and with `RFI` for a pulse that is
+/// taken for interference.
 #[derive(Drop)]
 pub(crate) struct BeamLabels<'a> {
     channels: u32,
@@ -20,7 +21,7 @@ pub(crate) struct BeamLabels<'a> {
 }
 
 impl<'a> BeamLabels<'a> {
-    /// Those of an observation and its beams.
+    /// The labels of an observation and its beams.
     pub(crate) fn of(
         obs: &Observation,
         beams: &'a [Option<BeamEnd>],

@@ -16,7 +16,7 @@ pub fn searched_beams_are_found()
     candidates_rise();
 }
 
-/// A later header whose values are those of the first one, and which has its OBS_OFFSET, has its observation.
+/// A later header with the values of the first one and its OBS_OFFSET has its observation.
 pub fn later_headers_agree()
     ensures { LaterHeadersAgree }
 {

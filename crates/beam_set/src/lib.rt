@@ -1,5 +1,5 @@
-//! Several beams: they are searched beside each other, each over its own inputs; which of their pulses are taken for
-//! interference; and the text of what they found.
+//! Several beams: they are searched at the same time, each over its own inputs (`run_set`); which of their pulses are
+//! taken for interference (`marked`); and the text of what they found (`write_beams`).
 #![tactic(auto)]
 
 mod beam;

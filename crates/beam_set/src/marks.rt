@@ -34,7 +34,7 @@ fn count_near(beams: &[Option<BeamEnd>], spectrum: u64, within: u32) -> usize
     count
 }
 
-/// What `marked` answers, where the pulses of each list come first and are ordered by their ends.
+/// Whether a pulse is marked, as `marked` answers, if the pulses of each list come first and are ordered by their ends.
 pub(crate) fn marked_among(beams: &[Option<BeamEnd>], end: u64, within: u32, more: u32) -> bool
     requires { All EndsRise (lists_in beams.now) }
     ensures { result ≡ is_marked (lists_in beams.now) within more end }

@@ -27,7 +27,7 @@ fn ends_near(candidate: &Candidate, spectrum: u64, within: u32) -> bool
     }
 }
 
-// How many pulses of a list end before a spectrum: so many candidates come before all others.
+// How many pulses of a list end before a spectrum. They come before all other candidates.
 fn count_before(list: &[Candidate], spectrum: u64) -> usize
     requires { EndsRise list.now }
     ensures { IsPartitionPoint (λ c. is_before spectrum c ≡ true)
@@ -36,8 +36,8 @@ fn count_before(list: &[Candidate], spectrum: u64) -> usize
     list.partition_point(|candidate| ends_before(candidate, spectrum))
 }
 
-/// Whether a list has a pulse whose end differs from a spectrum by at most `within`: the first pulse that does not end
-/// too early tells.
+/// Whether a list has a pulse whose end differs from a spectrum by at most `within`. The first pulse that does not end
+/// too early decides.
 pub(crate) fn has_near(list: &[Candidate], spectrum: u64, within: u32) -> bool
     requires { EndsRise list.now }
     ensures { result ≡ list_any (is_near within spectrum) list.now }

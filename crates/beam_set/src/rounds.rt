@@ -1,4 +1,4 @@
-// A round: the beams of a set take turns beside each other.
+// A round: the beams of a set take turns at the same time.
 ghost use Rattle.std.specs.Prelude.{◌≡◌, ◌↔◌, ◌+◌, ◌++◌, ◌<◌, ◌≤◌, All, IsTrue, length};
 ghost use Rattle.std.specs.Thread.{IsSend, IsSync};
 ghost use Rattle.beam_set.specs.Sets.{EachPair, PairsMoved, SlotOn, SlotMoved, HasSlotEnded};
@@ -10,7 +10,7 @@ use search_session::Gate;
 use std::mem;
 use std::thread::{Threads, join_mut};
 
-// A beam takes so many turns, or fewer where it ended.
+// Takes `turns` turns of a beam, or fewer if it ended.
 fn drive_slot<I: Inputs, G: Gate>(
     gate: &G,
     number: u32,
@@ -49,7 +49,7 @@ pub(crate) fn all_ended(beams: &[Option<Beam<'_>>]) -> bool
     true
 }
 
-// The first of some beams takes so many turns, where there is one.
+// Takes `turns` turns of the first of some beams, if there is one.
 fn drive_first<I: Inputs, G: Gate>(
     gate: &G,
     first: u32,
@@ -69,7 +69,7 @@ fn drive_first<I: Inputs, G: Gate>(
     drive_slot(gate, first, turns, &mut beams[0], &mut inputs[0]);
 }
 
-// So many beams leave the front of others.
+// Takes the first `count` beams out of others.
 fn take_front<'a>(
     beams: &mut ArrayVec<Option<Beam<'a>>, MOST_BEAMS>,
     count: usize,
@@ -86,7 +86,7 @@ fn take_front<'a>(
     front
 }
 
-// The later half of some beams leaves them.
+// Takes the later half of some beams out of them.
 fn split<'a>(
     beams: &mut ArrayVec<Option<Beam<'a>>, MOST_BEAMS>,
 ) -> ArrayVec<Option<Beam<'a>>, MOST_BEAMS>
@@ -99,7 +99,7 @@ fn split<'a>(
     mem::replace(beams, front)
 }
 
-// Beams come after others.
+// Appends beams to others.
 fn append<'a>(
     beams: &mut ArrayVec<Option<Beam<'a>>, MOST_BEAMS>,
     mut rest: ArrayVec<Option<Beam<'a>>, MOST_BEAMS>,
@@ -112,9 +112,9 @@ fn append<'a>(
     }
 }
 
-/// Each beam takes so many turns, or fewer where it ended, over the inputs at its place. The halves of the beams do so
-/// beside each other, and so do their halves. The gate knows the first beam by this number, and the others by those
-/// that follow.
+/// Takes `turns` turns of each beam, or fewer if it ended, over the inputs at its place. The halves of the beams do so
+/// at the same time, and so do their halves. The gate is called with `first` for the first beam, and with the numbers
+/// that follow for the others.
 #[cycle(halves)]
 pub(crate) fn drive_from<I: Inputs + Send, G: Gate + Sync, R: Threads + Sync>(
     rt: &R,
@@ -139,7 +139,7 @@ pub(crate) fn drive_from<I: Inputs + Send, G: Gate + Sync, R: Threads + Sync>(
     append(beams, rest);
 }
 
-// Both halves of some beams.
+// Drives both halves of some beams, at the same time.
 #[cycle(halves)]
 fn drive_halves<I: Inputs + Send, G: Gate + Sync, R: Threads + Sync>(
     rt: &R,

@@ -15,7 +15,7 @@ use search_engine::Engine;
 use search_session::{Bank, LoneSpace};
 use std::alloc::Global;
 
-/// All memory of a beam but that of its feeder: its rings, of which the first header is sealed, and its engine.
+/// All memory of a beam except that of its feeder: its rings, with the first header sealed, and its engine.
 #[derive(Drop)]
 pub struct BeamSpace {
     lone: LoneSpace,
@@ -34,8 +34,8 @@ fn bank_of(alloc: Global, engine: Engine) -> Result<Bank, Memory>
 }
 
 impl BeamSpace {
-    /// Takes all memory of a beam but that of its feeder: for rings of this shape, which have one reader, and of which
-    /// the header is sealed. The engine is the beam's one engine.
+    /// Takes all memory of a beam except that of its feeder, for rings of this shape, which have one reader, and seals
+    /// the header. The engine is the beam's one engine.
     pub fn reserve(
         alloc: Global,
         engine: Engine,
@@ -51,7 +51,7 @@ impl BeamSpace {
         Ok(BeamSpace { lone })
     }
 
-    /// The beam of this space and of a feeder that rests where its first header was accepted. It takes no memory.
+    /// The beam of this space and of a feeder at rest whose first header was accepted. It takes no memory.
     pub fn beam<'a>(self, feeder: FeederSpace<'a>) -> Beam<'a>
         requires ready { (told : Told) × IsBeamReady told self feeder }
         ensures begins { (told : Told) → IsBeamReady told self feeder.entry

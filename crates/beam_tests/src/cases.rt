@@ -1,4 +1,4 @@
-// Runs as the lines of a table say them, and how they must end.
+// Runs as the lines of a table give them, and how they must end.
 use crate::files::{NO_FILE, fields_of, push_lines};
 use crate::running::{ENOUGH, Ended, Limits, NEVER, all_inputs, run_past, words_of};
 use psr_base::{Inputs, MemInputs};
@@ -117,7 +117,7 @@ fn check<R: Threads + Wait + Sync + Abort>(
     Ok(())
 }
 
-/// Runs the lines of a table, each of which must end as it says.
+/// Runs the lines of a table, each of which must end as the line says.
 pub(crate) fn check_all<R: Threads + Wait + Sync + Abort>(
     rt: &R,
     alloc: Global,

@@ -3,7 +3,7 @@ use psr_base::MemInputs;
 use std::alloc::Global;
 use std::test::Fail;
 
-// The lines of a header for which `@` stands. A `;` ends a line, here and below.
+// The lines of a header that `@` stands for. A `;` ends a line, here and below.
 const COMMON: &str = "HDR_SIZE 4096;NCHAN 2;NBIT 8;TSAMP 64;FREQ 1400;BW -200;";
 
 // A file on each line: its name; the lines of its header; its data; and how long it is without its data, if not 4096
@@ -18,7 +18,9 @@ empty    | @ |
 at_four  | @OBS_OFFSET 4; | 10 0 0 20 0 0
 other_time | @UTC_START 2024-01-02-03:04:05; | 10 0 0 20 0 0
 slower   | HDR_SIZE 4096;NCHAN 2;NBIT 8;TSAMP 65;FREQ 1400;BW -200; | 10 0 0 20 0 0
-rising   | HDR_SIZE 4096;NCHAN 2;NBIT 8;TSAMP 64;FREQ 1400;BW 200; | 10 0 0 20 0 0
+rising   | HDR_SIZE 4096;NCHAN 2;NBIT 8;TSAMP 64;FREQ 1400;BW 200; | 0 10 20 0 0 0
+wide     | HDR_SIZE 4096;NCHAN 2;NBIT 16;TSAMP 64;FREQ 1400;BW -200; | 10 0 0 0 0 0 20 0 0 0 0 0
+two_pol  | @NPOL 2; | 5 5 0 0 0 0 10 10 0 0 0 0
 no_nchan | HDR_SIZE 4096;NBIT 8;TSAMP 64;FREQ 1400;BW -200; | 10 0 0 20 0 0
 no_number | HDR_SIZE 4096;NCHAN 2;NBIT 8;TSAMP 6.4e1;FREQ 1400;BW -200; | 10 0 0 20 0 0
 negative | @OBS_OFFSET -1; | 10 0 0 20 0 0
@@ -26,7 +28,7 @@ short    | @ | | 4095
 not_text | HDR_SIZE 4096;\u{7f}a\u{e9};
 ";
 
-/// The fields of a line of a table, which `|` parts. Those that it doesn't have are empty.
+/// The fields of a line of a table, divided by `|`. Missing ones are empty.
 pub(crate) fn fields_of(line: &'static str) -> [&'static str; 6] {
     let mut fields = [""; 6];
     for (i, field) in line.split('|').enumerate() {
@@ -45,7 +47,7 @@ pub(crate) fn push_lines(bytes: &mut Vec<u8>, lines: &str) -> Result<(), Fail> {
     Ok(())
 }
 
-/// A header of these lines, for which `@` may stand in front, of so many bytes.
+/// A header of these lines, which may begin with `@`, of `size` bytes.
 pub(crate) fn header_of(alloc: Global, lines: &str, size: usize) -> Result<Vec<u8>, Fail> {
     let mut bytes = Vec::new(alloc);
     match lines.strip_prefix('@') {
@@ -77,7 +79,7 @@ fn bytes_in(alloc: Global, fields: [&'static str; 6]) -> Result<Vec<u8>, Fail> {
 /// A name that no run reads.
 pub(crate) const NO_FILE: &str = "";
 
-/// Inputs that hold the files that the words name, and of whose calls the one with this number fails.
+/// Inputs that hold the files that the arguments name, whose call with this number fails.
 pub(crate) fn inputs_for(alloc: Global, words: &str, failing: u64) -> Result<MemInputs, Fail> {
     let mut inputs = MemInputs::open(alloc, &[failing])?;
     inputs.put(NO_FILE, &[])?;

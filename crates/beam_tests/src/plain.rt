@@ -11,7 +11,7 @@ pub(crate) const BEAMS: u64 = 7;
 /// How many spectra each has.
 const SPECTRA: u64 = 24;
 
-// A sample from 0 to 15, of which each is another: the multiplier and the shifts are those of a common mixing of bits.
+// A sample from 0 to 15, each a different one: the multiplier and the shifts are those of a common mixing of bits.
 fn sample(beam: u64, t: u64, c: u64) -> u8 {
     let number = beam
         .wrapping_mul(1000)
@@ -34,7 +34,7 @@ fn inputs_of(alloc: Global, beam: u64) -> Result<MemInputs, Fail> {
     Ok(inputs)
 }
 
-/// Those of all beams: each holds another file under the same name.
+/// The inputs of all beams: each holds another file under one name.
 pub(crate) fn inputs_of_all(alloc: Global) -> Result<[MemInputs; 7], Fail> {
     Ok([
         inputs_of(alloc, 0)?,
@@ -91,7 +91,7 @@ fn is_marked(end: u64, within: u64, more: u64) -> bool {
     count > more
 }
 
-/// A text that grows line by line, and how many of its lines are those of pulses that are marked, and of others.
+/// A text that grows line by line, and how many of its lines are those of marked pulses, and of others.
 #[derive(Drop)]
 pub(crate) struct Text {
     pub(crate) lines: String,
@@ -100,7 +100,7 @@ pub(crate) struct Text {
 }
 
 impl Text {
-    // The line of a pulse.
+    // Appends the line of a pulse.
     fn pulse(
         &mut self,
         alloc: Global,
@@ -122,7 +122,7 @@ impl Text {
         Ok(())
     }
 
-    // The text of a beam.
+    // Appends the text of a beam.
     fn beam(&mut self, alloc: Global, beam: u64, within: u64, more: u64) -> Result<(), Fail> {
         let head = format!(in alloc; "BEAM {beam}\n")?;
         self.lines.push_str(head.as_str())?;

@@ -1,6 +1,6 @@
-// Whole runs: on each line the words WITHIN and MORE; the words after those of every run; the numbers of the calls that
-// fail, how much room there is, where it is little, and of some how many calls of all inputs were made; the status; and
-// the output and the line on the notes, with `;` for the end of a line.
+// Whole runs: on each line the arguments WITHIN and MORE; the arguments after those of every run; the numbers of the
+// calls that fail, how much room there is, if it is little, and of some how many calls of all inputs were made; the
+// status; and the output and the line on the notes, with `;` for the end of a line.
 
 /// Beams that are searched to their ends.
 pub(crate) const SEARCHED: &str = "
@@ -24,6 +24,9 @@ pub(crate) const SEARCHED: &str = "
     BEAM 0;PULSE 1 1 0.104 1 30 3;END 1 0 3;BEAM 1;PULSE 1 1 0.104 1 30 3;END 1 0 3;\
     BEAM 2;PULSE 1 1 0.104 1 30 3;END 1 0 3;BEAM 3;PULSE 1 1 0.104 1 30 3;END 1 0 3;\
     BEAM 4;PULSE 1 1 0.104 1 30 3;END 1 0 3;BEAM 5;PULSE 1 1 0.104 1 30 3;END 1 0 3;BEAM 6;END 0 0 3;
+0 1 | rising rising | | 0 | BEAM 0;RFI 1 1 0.104 1 30 3;END 1 0 3;BEAM 1;RFI 1 1 0.104 1 30 3;END 1 0 3;
+0 1 | wide wide | | 0 | BEAM 0;RFI 1 1 0.104 1 30 3;END 1 0 3;BEAM 1;RFI 1 1 0.104 1 30 3;END 1 0 3;
+0 1 | two_pol two_pol | | 0 | BEAM 0;RFI 1 1 0.104 1 30 3;END 1 0 3;BEAM 1;RFI 1 1 0.104 1 30 3;END 1 0 3;
 0 1 | empty empty | calls 6 | 0 | BEAM 0;END 0 0 0;BEAM 1;END 0 0 0;
 0 1 | empty pulse | | 0 | BEAM 0;END 0 0 0;BEAM 1;PULSE 1 1 0.104 1 30 3;END 1 0 3;
 0 1 | pulse ragged | | 0 | BEAM 0;RFI 1 1 0.104 1 30 3;END 1 0 3;BEAM 1;RFI 1 1 0.104 1 30 3;END 1 0 4;
@@ -79,6 +82,9 @@ pub(crate) const STOPPED: &str = "
 0 1 | --max-bytes 5 empty pulse | | 8 | | more than 5 bytes;
 0 1 | --max-bytes 5 pulse pulse | beam 0, input 2 | 6 | | read fault;
 0 1 | --max-bytes 5 pulse pulse | beam 1, input 2 | 8 | | more than 5 bytes;
+0 1 | --max-bytes 6 pulse train pulse | | 8 | | more than 6 bytes;
+0 1 | --max-bytes 6 pulse train pulse | beam 2, input 2 | 8 | | more than 6 bytes;
+0 1 | --max-bytes 6 pulse train pulse | beam 0, input 2 | 6 | | read fault;
 0 1 | --max-bytes 5 --max-candidates 0 zeros pulse | | 8 | | more than 5 bytes;
 0 1 | --max-candidates 0 pulse pulse | | 9 | | 1 candidates, limit 0;
 0 1 | --max-candidates 0 zeros pulse | | 9 | | 1 candidates, limit 0;
@@ -94,7 +100,7 @@ pub(crate) const STOPPED: &str = "
 0 1 | pulse pulse | out 1, note 0 | 10 | BEAM 0; |
 ";
 
-/// Words that are refused.
+/// Arguments that are refused.
 pub(crate) const REFUSED: &str = "
 0 1 | pulse | calls 0 | 2 | | words refused;
 0 1 | pulse pulse pulse pulse pulse pulse pulse pulse | calls 0 | 2 | | words refused;

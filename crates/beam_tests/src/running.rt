@@ -40,10 +40,10 @@ pub(crate) struct Ended {
     pub(crate) notes: String,
 }
 
-// The words of every run, after WITHIN and MORE.
+// The arguments of every run, after WITHIN and MORE.
 const WORDS: &str = "--mean 1 --sd 2 --snr 7 --max-delay 1 --widths 1";
 
-/// The program's name, WITHIN and MORE, the words of every run, and those of a line. Blocks are small where the line
+/// The program's name, WITHIN and MORE, the arguments of every run, and those of a line. Blocks are small if the line
 /// doesn't say how large they are.
 pub(crate) fn words_of(alloc: Global, numbers: &str, line: &str) -> Result<Vec<String>, Fail> {
     let size = if line.contains("--size") {
@@ -60,7 +60,7 @@ pub(crate) fn words_of(alloc: Global, numbers: &str, line: &str) -> Result<Vec<S
     Ok(words)
 }
 
-// The inputs of a beam, which hold the files that the words name.
+// The inputs of a beam, which hold the files that the arguments name.
 fn inputs_of_beam(
     alloc: Global,
     words: &str,
@@ -75,7 +75,7 @@ fn inputs_of_beam(
     inputs_for(alloc, words, failing)
 }
 
-/// The inputs of all beams. Each holds the files that the words name.
+/// The inputs of all beams. Each holds the files that the arguments name.
 pub(crate) fn all_inputs(
     alloc: Global,
     words: &str,
@@ -99,7 +99,7 @@ fn text_of(alloc: Global, sink: &MemSink) -> Result<String, Fail> {
     }
 }
 
-/// Runs the program with these words over these inputs; a gate is told of each turn.
+/// Runs the program with these words over these inputs; a gate is called at each turn.
 pub(crate) fn run_past<G: Gate + Sync, R: Threads + Wait + Sync>(
     rt: &R,
     alloc: Global,

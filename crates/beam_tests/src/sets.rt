@@ -109,7 +109,7 @@ fn begin<'a>(
     beam_of(alloc, feeder)
 }
 
-/// What three beams with a file of the same name come to, which are driven beside each other over these inputs.
+/// How three beams with a file of one name end, which are driven at the same time over these inputs.
 pub(crate) fn run_three<G: Gate + Sync, R: Threads + Wait + Sync>(
     rt: &R,
     alloc: Global,

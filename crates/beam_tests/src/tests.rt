@@ -36,7 +36,7 @@ fn run_limited<R: Threads + Wait + Sync>(
     run_past(rt, alloc, words.as_slice(), &mut inputs, limits, &NoGate)
 }
 
-// ---- beside each other
+// ---- at the same time
 
 // Whether the beams of these numbers meet, each of which waits for the other.
 fn do_meet<R: Threads + Wait + Sync>(
@@ -57,7 +57,15 @@ fn do_meet<R: Threads + Wait + Sync>(
 fn beams_run_beside_each_other(rt: HostRuntime) -> Result<(), Fail> {
     let two = "--size 1 --turns 1 pulse pulse";
     let three = "pulse zeros pulse";
-    for (line, one, other) in [(two, 0, 1), (three, 0, 2), (three, 1, 2)] {
+    let seven = "pulse zeros pulse pulse pulse pulse pulse";
+    for (line, one, other) in [
+        (two, 0, 1),
+        (three, 0, 2),
+        (three, 1, 2),
+        (seven, 0, 6),
+        (seven, 2, 5),
+        (seven, 3, 4),
+    ] {
         assert!(rt;
             do_meet(&rt, rt.alloc(), line, one, other)?,
             "{line} {one} {other}"
@@ -80,7 +88,7 @@ fn turns_of_each_beam_are_told(rt: HostRuntime) -> Result<(), Fail> {
 
 // ---- a set of three beams
 
-// What three beams with the same pulse come to, of one of which a call fails.
+// How three beams with one pulse each end, if a call of one of them fails.
 fn ends_of<G: Gate + Sync, R: Threads + Wait + Sync>(
     rt: &R,
     alloc: Global,
@@ -99,7 +107,7 @@ fn ends_of<G: Gate + Sync, R: Threads + Wait + Sync>(
     run_three(rt, alloc, names, one, two, three, gate)
 }
 
-// Whether a beam read all of its data, and found their pulse alone.
+// Whether a beam read all of its data, and found exactly their pulse.
 fn has_pulse(end: &Option<BeamEnd>) -> bool {
     let Some(end) = end else {
         return false;
@@ -114,7 +122,7 @@ fn has_pulse(end: &Option<BeamEnd>) -> bool {
     is_whole && end.book.count() == 1 && end.book.kept() == [pulse].as_slice()
 }
 
-// Whether its inputs failed.
+// Whether the inputs of a beam failed.
 fn has_failed(end: &Option<BeamEnd>) -> bool {
     match end {
         Some(end) => end.feed == FeedEnd::ReadFault,
@@ -122,7 +130,7 @@ fn has_failed(end: &Option<BeamEnd>) -> bool {
     }
 }
 
-// Whether one of three beams failed, and the others found what they find without it.
+// Whether one of three beams failed, and the others found what they find without that.
 fn has_failed_alone(ends: &[Option<BeamEnd>], failing: usize) -> bool {
     for (k, end) in ends.iter().enumerate() {
         let is_so = if k == failing {
@@ -171,7 +179,7 @@ fn call_count(beam: u64) -> u64 {
     if beam == 5 { 3 } else { 4 }
 }
 
-// Whether a run of seven beams is answered, of one of which a call fails.
+// Whether a run of seven beams is answered if a call of one of them fails.
 fn is_answered<R: Threads + Wait + Sync>(
     rt: &R,
     alloc: Global,

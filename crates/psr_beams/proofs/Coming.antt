@@ -10,9 +10,9 @@ use Rattle.disk_feeder.specs.declared.answers.FeedEnd.TheVariants.{Whole, ReadFa
 use Rattle.disk_feeder.specs.Ends.{end_of}
 use Rattle.disk_feeder.specs.declared.feeder.FeederSpace.{FeederSpace}
 use Rattle.disk_feeder.specs.Feeder.{plan_at, FeederRead}
-use Rattle.disk_feeder.specs.Feeding.{EndIs, IsWalkEnd}
+use Rattle.disk_feeder.specs.Feeding.{EndIs, IsWalkEnd, SealedAs}
 use Rattle.disk_feeder.specs.Filling.{HoldsAll}
-use Rattle.disk_feeder.specs.Plan.{stream_of, AreTold}
+use Rattle.disk_feeder.specs.Plan.{Plan, stream_of, AreTold}
 use Rattle.disk_feeder.specs.Resting.{at_rest}
 use Rattle.beam_set.specs.declared.beam.Beam.{Beam}
 use Rattle.beam_set.specs.declared.ended.BeamEnd.{BeamEnd}
@@ -34,6 +34,13 @@ walk_end w size blocks ReadFault is not = absurd (not refl)
 walk_end w size blocks (BadHeader file cause) is not = is
 walk_end w size blocks (Gap file expected found) is not = is
 walk_end w size blocks (TooLong limit) is not = is
+
+-- the limit of an end at too many data is that of the plan
+told_limit : (plan : Plan) (size : ℕ) (before : List (List ℕ)) (current : List ℕ) (headers blocks : _)
+    (end : FeedEnd) (limit : ℕ) → SealedAs plan size before current headers blocks end → end ≡ TooLong limit →
+    limit ≡ plan.max_bytes
+told_limit plan size before current headers blocks end limit sealed is =
+    (subst (λ e. SealedAs plan size before current headers blocks e) is sealed).3
 
 same_inside : {X : Type 0} (x y : X) → Some x ≡ Some y → x ≡ y
 same_inside x y is = cc
@@ -72,6 +79,7 @@ module _ {I : Type 0} (told : I → Told) (is_calm : I → Type 0) (faults : I �
               ended.is ∙ ap (λ n. end_of total n (walk_stop walk)) is.plan.limit
                   ∙ ap (λ (w : FileStream). end_of total s.max_bytes (walk_stop w)) same,
             );
+        limit = λ limit is_long. told_limit plan _ _ _ _ _ end.feed limit feed.sealed.sealed is_long ∙ is.plan.limit;
         bytes = data_through (session_of after end answers.blocks) 0;
         held = λ n whole. answers.held s.search o n whole is.searches;
         known = λ n whole file at.

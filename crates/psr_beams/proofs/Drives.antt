@@ -21,7 +21,7 @@ use Rattle.psr_beams.specs.Ends.{NoneStops, EndsBeams}
 use Rattle.psr_beams.specs.Driven.{CanRun, HaveCome, HaveBroken, ReadsAll, IsDriven}
 use Rattle.psr_beams.proofs.OneFile.{only_start}
 use Rattle.psr_beams.proofs.Opening.{headers_there, are_headers, can_run}
-use Rattle.psr_beams.proofs.Through.{all_data}
+use Rattle.psr_beams.proofs.Walked.{all_data}
 
 module _ {I : Type 0} (told : I → Told) (is_open : I → Type 0) (is_calm : I → Type 0) (faults : I → ℕ)
     (s : SettingsSeen) (range : AllInRange s) (one : IsOfOne s) (before mid : List I)

@@ -21,14 +21,14 @@ use Rattle.run_stop.specs.declared.stop.Stop.TheVariants.{Header, Memory, ReadFa
 use Rattle.run_stop.specs.Ends.{WordsSayOnce}
 use Rattle.psr_beams.specs.Words.{SayBeams, searching_beams, is_beam_count, within_in, more_in}
 use Rattle.psr_beams.specs.Seen.{told_at, calm_at, seen_at}
-use Rattle.psr_beams.specs.Files.{ForBeams, beam_name, beam_file, header_read}
+use Rattle.psr_beams.specs.Files.{ForSettings, OfBeam, beam_name, header_read}
 use Rattle.psr_beams.specs.Outcome.{IsHeaderRead, ReadsNoData, ReadsHeadersTo, ReadsDataTo, FailsFirst}
 use Rattle.psr_beams.specs.Opened.{StopsOpening}
 use Rattle.psr_beams.specs.Feeders.{LeavesData, StopsReading}
 use Rattle.psr_beams.specs.Driven.{ReadsAll, IsDriven}
-use Rattle.psr_beams.specs.Ends.{Ends, stop_of_beam, slot_stop, StopsFirst, EndsBeams}
+use Rattle.psr_beams.specs.Ends.{Ends, stop_at_data, stop_at_header, slot_stop, StopsBy, StopsFirst, EndsBeams}
 use Rattle.psr_beams.proofs.Counting.{element, seen_there, seen_still}
-use Rattle.psr_beams.proofs.Builders.{for_settings, fails_first}
+use Rattle.psr_beams.proofs.Builders.{for_said, fails_first}
 use Rattle.psr_beams.proofs.Opening.{later_kind}
 use Rattle.psr_beams.proofs.Stopped.{told_there, all_read, texts, reading_ends, not_opened}
 use Rattle.psr_beams.proofs.Through.{fails_in_order, through}
@@ -77,21 +77,26 @@ module _ {I : Type 0} (told : I → Told) (is_calm : I → Type 0) (faults : I �
   -- ---- where there was no memory
 
   -- all data of the file of a beam are left
+  left_at : (k : ℕ) (x : I) → k < n → length after ≡ length before →
+      LeavesData (told (get_or before k x)) (beam_name s k) (told (get_or after k x)) →
+      OfBeam (told_at told before) s k (IsHeaderRead s k (told_at told before) (told_at told after))
+  left_at k x below lent left file at =
+      seen_there told nothing_told after k x (omega (arith, below, enough, lent))
+      ∙ left file (told_there told is_calm faults words once s says before enough k x below file at)
+      ∙ ap (header_read (beam_name s k) file)
+      (sym (seen_there told nothing_told before k x (omega (arith, below, enough))))
+
+  abbrev LeavesAll : ℕ → SettingsSeen → Type 0
+  LeavesAll k t = OfBeam (told_at told before) t k (IsHeaderRead t k (told_at told before) (told_at told after))
+
   leaves : (k : ℕ) (x : I) → k < n → length after ≡ length before →
       LeavesData (told (get_or before k x)) (beam_name s k) (told (get_or after k x)) →
-      ForBeams words (told_at told before)
-      (λ t files. IsHeaderRead t files k (told_at told before) (told_at told after))
-  leaves k x below lent left = for_settings words (told_at told before) once s says
-      (λ t files. IsHeaderRead t files k (told_at told before) (told_at told after))
-      (λ files are. seen_there told nothing_told after k x (omega (arith, below, enough, lent))
-      ∙ left (beam_file files k) (told_there told is_calm faults words once s says before enough files are k x below)
-      ∙ ap (header_read (beam_name s k) (beam_file files k))
-      (sym (seen_there told nothing_told before k x (omega (arith, below, enough)))))
+      ForSettings words (LeavesAll k)
+  leaves k x below lent left =
+      for_said words (told_at told before) once s says (LeavesAll k) (left_at k x below lent left)
 
   abbrev ReadsNone : ℕ → Type 0
-  ReadsNone k = (told_at told after k ≡ told_at told before k)
-      ⊎ ForBeams words (told_at told before)
-      (λ t files. IsHeaderRead t files k (told_at told before) (told_at told after))
+  ReadsNone k = (told_at told after k ≡ told_at told before k) ⊎ ForSettings words (LeavesAll k)
 
   reading_none : StopsReading told is_calm faults s before after Memory → (k : ℕ) → ReadsNone k
   reading_none r k = elim (cases_lt k r.beam) [
@@ -137,22 +142,36 @@ module _ {I : Type 0} (told : I → Told) (is_calm : I → Type 0) (faults : I �
   -- a search that went through had memory
   no_memory_after : (o : _) (search : _) (within more : ℕ) (ends : List (Option BeamEnd)) (stop : Option Stop) →
       EndsBeams o search within more ends out out' stop → stop ≡ Some Memory → ⊥
-  no_memory_after o search within more ends stop (inl (first, is, r, same)) want =
-      by_slot (get_or ends r.beam None) r.is
+  no_memory_after o search within more ends stop (inl (first, is, r, same)) want = by_way r
     where
       memory : first ≡ Memory
       memory = let same : Some first ≡ Some Memory = sym is ∙ want in cc
 
-      by_end : (e : FeedEnd) → stop_of_beam r.beam e ≡ Some first → ⊥
-      by_end (feed.Whole bytes) e = cc
-      by_end feed.ReadFault e = let m = memory in cc
-      by_end (feed.BadHeader file cause) e = let m = memory in cc
-      by_end (feed.Gap file expected found) e = let m = memory in cc
-      by_end (feed.TooLong limit) e = let m = memory in cc
+      at_data : (k : ℕ) (e : FeedEnd) → stop_at_data k e ≡ Some first → ⊥
+      at_data k (feed.Whole bytes) e = cc
+      at_data k feed.ReadFault e = let m = memory in cc
+      at_data k (feed.BadHeader file cause) e = cc
+      at_data k (feed.Gap file expected found) e = cc
+      at_data k (feed.TooLong limit) e = let m = memory in cc
 
-      by_slot : (slot : Option BeamEnd) → slot_stop r.beam slot ≡ Some first → ⊥
-      by_slot None e = cc
-      by_slot (Some end) e = by_end end.feed e
+      at_header : (k : ℕ) (e : FeedEnd) → stop_at_header k e ≡ Some first → ⊥
+      at_header k (feed.Whole bytes) e = cc
+      at_header k feed.ReadFault e = cc
+      at_header k (feed.BadHeader file cause) e = let m = memory in cc
+      at_header k (feed.Gap file expected found) e = let m = memory in cc
+      at_header k (feed.TooLong limit) e = cc
+
+      data_slot : (k : ℕ) (slot : Option BeamEnd) → slot_stop stop_at_data k slot ≡ Some first → ⊥
+      data_slot k None e = cc
+      data_slot k (Some end) e = at_data k end.feed e
+
+      header_slot : (k : ℕ) (slot : Option BeamEnd) → slot_stop stop_at_header k slot ≡ Some first → ⊥
+      header_slot k None e = cc
+      header_slot k (Some end) e = at_header k end.feed e
+
+      by_way : StopsFirst ends first → ⊥
+      by_way (inl r) = data_slot r.beam (get_or ends r.beam None) r.is
+      by_way (inr (none, r)) = header_slot r.beam (get_or ends r.beam None) r.is
   no_memory_after o search within more ends stop (inr (inl (many, is, none, r, same))) want = let e = r.is in cc
   no_memory_after o search within more ends stop (inr (inr r)) want = by_kind r.kind
     where
@@ -182,27 +201,26 @@ module _ {I : Type 0} (told : I → Told) (is_calm : I → Type 0) (faults : I �
       fails_first told is_calm faults words _ before after
       (all_read told is_calm faults words once s says before enough after ReadFault r) r.beam
       (omega (arith, there, enough)) (refl, refl) (λ k less p. let e = p.0 in omega (arith, e, less))
-      (for_settings words (told_at told before) once s says
-      (λ t files. ReadsHeadersTo t files r.beam (told_at told before) (told_at told after)
-      ⊎ ReadsDataTo t files r.beam (told_at told before) (told_at told after))
-      (λ files are. inl (record {
-        headers = texts told is_calm faults words once s says before enough after files are ReadFault r;
+      (for_said words (told_at told before) once s says
+      (λ t. ReadsHeadersTo t r.beam (told_at told before) (told_at told after)
+      ⊎ ReadsDataTo t r.beam (told_at told before) (told_at told after))
+      (inl (record {
+        headers = texts told is_calm faults words once s says before enough after ReadFault r;
         read = λ k less.
             let below : k < n = omega (arith, less, there) in
             let x = element before k (omega (arith, below, enough)) in
-            leaves k x below r.lent (r.earlier k x less).left s files says are;
-        broke =
+            left_at k x below r.lent (r.earlier k x less).left;
+        broke = λ file at.
             let inside : r.beam < length before = omega (arith, there, enough) in
             let x = element before r.beam inside in
             let lent = r.lent in
             let name = beam_name s r.beam in
-            let file = beam_file files r.beam in
             subst (λ t. BreaksAt name file t (told_at told after r.beam))
             (sym (seen_there told nothing_told before r.beam x inside))
             (subst (λ t. BreaksAt name file (told (get_or before r.beam x)) t)
             (sym (seen_there told nothing_told after r.beam x (omega (arith, inside, lent))))
             ((r.fails x).broke refl file
-            (told_there told is_calm faults words once s says before enough files are r.beam x there)));
+            (told_there told is_calm faults words once s says before enough r.beam x there file at)));
         others = λ k more. seen_still told nothing_told before after k r.lent (λ x. r.others k x more);
       })))
 
@@ -236,13 +254,30 @@ module _ {I : Type 0} (told : I → Told) (is_calm : I → Type 0) (faults : I �
     where
       by_end : EndsBeams g.observation s.search within more g.ends out out' stop →
           FailsFirst words (seen_at told faults before after) (told_at told after)
-      by_end (inl (first, is, r, same)) =
-          fails_in_order told is_calm faults words once rows continue agree s says before g.mid after enough some
-          g.headers g.read g.observation g.accepted g.fits g.ends g.come out out'
-          (subst (λ (x : Stop). StopsFirst g.ends x) (one first (sym is ∙ want)) r) g.broken
+      by_end (inl (first, is, r, same)) = by_way r
         where
           one : (a : Stop) → Some a ≡ Some ReadFault → a ≡ ReadFault
           one a e = cc
+
+          at_header : (k : ℕ) (e : FeedEnd) → stop_at_header k e ≡ Some first → first ≡ ReadFault → ⊥
+          at_header k (feed.Whole bytes) e fault = cc
+          at_header k feed.ReadFault e fault = cc
+          at_header k (feed.BadHeader file cause) e fault = cc
+          at_header k (feed.Gap file expected found) e fault = cc
+          at_header k (feed.TooLong limit) e fault = cc
+
+          header_slot : (k : ℕ) (slot : Option BeamEnd) → slot_stop stop_at_header k slot ≡ Some first →
+              first ≡ ReadFault → ⊥
+          header_slot k None e fault = cc
+          header_slot k (Some end) e fault = at_header k end.feed e fault
+
+          by_way : StopsFirst g.ends first → FailsFirst words (seen_at told faults before after) (told_at told after)
+          by_way (inl r) =
+              fails_in_order told is_calm faults words once rows continue agree s says before g.mid after enough some
+              g.headers g.read g.observation g.accepted g.fits g.ends g.come out out'
+              (subst (λ (x : Stop). StopsBy stop_at_data g.ends x) (one first (sym is ∙ want)) r) g.broken
+          by_way (inr (none, r)) = absurd
+              (header_slot r.beam (get_or g.ends r.beam None) r.is (one first (sym is ∙ want)))
       by_end (inr (inl (many, is, none, r, same))) = absurd (let e = r.is in cc)
       by_end (inr (inr r)) = by_kind r.kind
         where

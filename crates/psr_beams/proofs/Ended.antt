@@ -1,6 +1,5 @@
 -- The ends of all beams, looked through in their order.
-use Rattle.std.proofs.Common.{◌≡◌, ℕ, ◌+◌, ◌<◌, ◌≤◌, inl, inr, List, [], All, map, length, get_or, Option, Some, None, sym, ap, subst, ◌∙◌, arith}
-use Rattle.std.proofs.lemmas.Bool.{cases_lt}
+use Rattle.std.proofs.Common.{◌≡◌, ℕ, ◌<◌, ◌≤◌, List, [], All, map, length, get_or, Option, Some, None, ap, subst, arith}
 use Rattle.std.proofs.lemmas.List.{get_or_default}
 use Rattle.dada_model.specs.Observation.{Observation}
 use Rattle.search_model.specs.declared.search.Search.{Search}
@@ -13,30 +12,13 @@ use Rattle.beam_set.specs.Beams.{CanBeWritten, found_in}
 use Rattle.beam_set.specs.Laws.{HoldsData, BeamsHoldData, SearchedBeamsAreFound}
 use Rattle.beam_set.specs.Searched.{found_by, searched_beams_text}
 use Rattle.beam_set.specs.Text.{beams_text}
-use Rattle.psr_beams.specs.Ends.{slot_stop, stop_in, slot_count, counted_in, NoneCountsTooMany}
+use Rattle.psr_beams.specs.Ends.{slot_count, counted_in, NoneCountsTooMany}
 
 module _ (ends : List (Option BeamEnd)) where
-  -- what stands at a place
-  here : (n : ℕ) (slot : Option BeamEnd) → slot ≡ get_or ends n slot → n < length ends → get_or ends n None ≡ slot
-  here n slot is within = get_or_default ends n None slot within ∙ sym is
-
-  -- one more
-  more : (P : ℕ → Type 0) (n : ℕ) → ((k : ℕ) → k < n → P k) → P n → (k : ℕ) → k < n + 1 → P k
-  more P n before last k within = elim (cases_lt k n) [
-    | inl below ↦ before k below
-    | inr above ↦ let same : n ≡ k = omega (arith, within, above) in subst P same last
-  ]
-
-  pub none_more : (n : ℕ) (slot : Option BeamEnd) → ((k : ℕ) → k < n → stop_in ends k ≡ None) →
-      slot ≡ get_or ends n slot → n < length ends → slot_stop n slot ≡ None → (k : ℕ) → k < n + 1 →
-      stop_in ends k ≡ None
-  none_more n slot before is within none =
-      more (λ k. stop_in ends k ≡ None) n before (ap (slot_stop n) (here n slot is within) ∙ none)
-
   -- ---- the lists
 
   module _ (o : Observation) (s : Search) where
-    counted_is : (bytes : List ℕ) (slot : Option BeamEnd) → HoldsData o s bytes slot →
+    pub counted_is : (bytes : List ℕ) (slot : Option BeamEnd) → HoldsData o s bytes slot →
         slot_count slot ≡ length (candidates_of o s bytes)
     counted_is bytes None held = absurd held
     counted_is bytes (Some end) (book, spectra) = ap (λ (b : BookContents). b.count) book

@@ -14,6 +14,8 @@ pub mod Running
 pub mod Opening
 pub mod Builders
 pub mod Stopped
+pub mod Together
+pub mod Walked
 pub mod Through
 pub mod Drives
 pub mod Driving

@@ -1,5 +1,5 @@
 -- What is accepted of the files of beams is not refused, and what is refused first is refused once.
-use Rattle.std.proofs.Common.{◌≡◌, ℕ, zero, suc, List, length, inl, inr, sym, ap, subst, ◌∙◌, Option, Some, None, Ok, arith}
+use Rattle.std.proofs.Common.{◌≡◌, ℕ, zero, suc, List, length, inl, inr, refl, sym, ap, subst, ◌∙◌, Option, Some, None, Ok, arith}
 use Rattle.std.proofs.lemmas.Bool.{cases_lt}
 use Rattle.dada_header.specs.declared.faults.HeaderFault.{HeaderFault}
 use Rattle.dada_header.specs.declared.faults.HeaderFault.TheVariants as header
@@ -27,12 +27,27 @@ use Rattle.psr_beams.specs.Found.{StopsBeam, AreWhole, HasTooMany, AreSearched}
 use Rattle.psr_beams.specs.Stops.{IsStopOfBeams}
 
 -- bytes that have a header are not refused
-has_header : (file : List ℕ) (h : HeaderText) (fault : HeaderFault) → header_of file ≡ Ok h →
+pub has_header : (file : List ℕ) (h : HeaderText) (fault : HeaderFault) → header_of file ≡ Ok h →
     IsHeaderRefusal file fault → ⊥
 has_header file h (header.Short had) ok refused = cc
 has_header file h (header.NotText place) ok refused = cc
 has_header file h header.BadSize ok refused = cc
 has_header file h header.Memory ok refused = refused
+
+-- and are refused by one cause
+pub one_refusal : (file : List ℕ) (a b : HeaderFault) → IsHeaderRefusal file a → IsHeaderRefusal file b → a ≡ b
+one_refusal file header.Memory b x y = absurd x
+one_refusal file a header.Memory x y = absurd y
+one_refusal file (header.Short m) (header.Short n) x y = let same : m ≡ n = cc in ap (λ k. header.Short k) same
+one_refusal file (header.Short m) (header.NotText n) x y = absurd cc
+one_refusal file (header.Short m) header.BadSize x y = absurd cc
+one_refusal file (header.NotText m) (header.Short n) x y = absurd cc
+one_refusal file (header.NotText m) (header.NotText n) x y =
+    let same : m ≡ n = cc in ap (λ k. header.NotText k) same
+one_refusal file (header.NotText m) header.BadSize x y = absurd cc
+one_refusal file header.BadSize (header.Short n) x y = absurd cc
+one_refusal file header.BadSize (header.NotText n) x y = absurd cc
+one_refusal file header.BadSize header.BadSize x y = refl
 
 -- nor fields that have an observation
 has_observation : (fields : List Field) (o : Observation) (fault : ObsFault) → observation_of fields ≡ Ok o →

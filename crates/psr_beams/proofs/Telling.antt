@@ -42,18 +42,18 @@ module _ {I : Type 0} (told : I → Told) (is_calm : I → Type 0) (faults : I �
         let e = law searching_beams words no_inputs no_files fault.Refused Words why refl refl in
         ends_at words _ _ out out Words (1, lit< tt, refl) (λ x. omega (arith, x)) (λ x. omega (arith, x)) refl
         e.run.judged (reads_quietly told is_calm faults words (λ k. ⊥) lent lent none_read 2 (λ x. omega (arith, x))
-        (λ x. omega (arith, x)) (λ k x. x)) e.said.0 (λ s files says are. tt)
+        (λ x. omega (arith, x)) (λ k x. x)) e.said.0 (λ s says. tt)
     ends_by (fault.OutOfRange opt) why =
         let e = law searching_beams words no_inputs no_files (fault.OutOfRange opt) (Value opt) why
         refl refl in
         ends_at words _ _ out out (Value opt) (1, lit< tt, refl) (λ x. omega (arith, x)) (λ x. omega (arith, x)) refl
         e.run.judged (reads_quietly told is_calm faults words (λ k. ⊥) lent lent none_read 2 (λ x. omega (arith, x))
-        (λ x. omega (arith, x)) (λ k x. x)) e.said.0 (λ s files says are. tt)
+        (λ x. omega (arith, x)) (λ k x. x)) e.said.0 (λ s says. tt)
     ends_by fault.Memory why =
         let e = law searching_beams words no_inputs no_files fault.Memory Memory why refl refl in
         ends_at words _ _ out out Memory (4, lit< tt, refl) (λ x. omega (arith, x)) (λ x. omega (arith, x)) refl
         e.run.judged (reads_quietly told is_calm faults words (λ k. ⊥) lent lent none_read 5 (λ x. omega (arith, x))
-        (λ x. omega (arith, x)) (λ k x. x)) tt (λ s files says are. tt)
+        (λ x. omega (arith, x)) (λ k x. x)) tt (λ s says. tt)
 
     pub at_words : (f : WordFault) (stop : Stop) → Explains searching_beams words f → stop ≡ stop_of_words f →
         EndsAt stop

@@ -1,7 +1,6 @@
 -- A search of beams that went to the end of all of them.
-use Rattle.std.proofs.Common.{◌≡◌, ◌≢◌, ◌⊎◌, ℕ, zero, suc, ◌<◌, ◌≤◌, Bool, true, false, List, [], ◌∷◌, length, map, get_or, refl, sym, ap, subst, ◌∙◌, inl, inr, Option, Some, None, lit<, arith}
-use Rattle.std.specs.Prelude.{IsSome, nat_lt, if◌then◌else◌}
-use Rattle.std.specs.List.{cons_option}
+use Rattle.std.proofs.Common.{◌≡◌, ◌≢◌, ◌⊎◌, ℕ, ◌<◌, ◌≤◌, List, [], length, map, get_or, refl, sym, ap, subst, ◌∙◌, inl, inr, Option, Some, None, lit<, arith}
+use Rattle.std.specs.Prelude.{IsSome}
 use Rattle.std.proofs.lemmas.Bool.{cases_lt}
 use Rattle.std.proofs.lemmas.List.{get_or-map, length-map}
 use Rattle.psr_base.specs.Inputs.{HasReadFrom}
@@ -10,148 +9,39 @@ use Rattle.psr_base.specs.Written.{SinkSeen, WroteAll, WroteFront}
 use Rattle.dada_model.specs.Laws.{AcceptedByRows}
 use Rattle.dada_model.specs.Fields.{HeaderText}
 use Rattle.dada_model.specs.Observation.{Observation}
-use Rattle.search_model.specs.Observed.{candidates_of}
 use Rattle.search_model.specs.Plan.{plan_refusal}
 use Rattle.search_words.specs.Settings.{SettingsSeen}
-use Rattle.stream_model.specs.Walk as walk
-use Rattle.stream_model.specs.Walk.{WalkStop, data_of, file_at, begin_of, header_stop, length_stop, stop_at, walk_stop, first_of_two, first_or_whole, data_between}
-use Rattle.stream_model.specs.WalkLaws.{IsAccepted, AreStarts, AreWalked, FirstFilesContinue}
+use Rattle.stream_model.specs.Walk.{data_of}
+use Rattle.stream_model.specs.WalkLaws.{IsAccepted, FirstFilesContinue}
+use Rattle.disk_feeder.specs.declared.answers.HeaderCause.{HeaderCause}
+use Rattle.disk_feeder.specs.declared.answers.HeaderCause.TheVariants.{Text, Fields}
 use Rattle.disk_feeder.specs.declared.answers.FeedEnd.{FeedEnd}
 use Rattle.disk_feeder.specs.declared.answers.FeedEnd.TheVariants as feed
-use Rattle.disk_feeder.specs.Ends.{end_of}
 use Rattle.beam_set.specs.declared.ended.BeamEnd.{BeamEnd}
 use Rattle.beam_set.specs.Laws.{HoldsData, BeamsHoldData}
 use Rattle.beam_set.specs.Later.{LaterHeadersAgree}
 use Rattle.beam_set.specs.Searched.{searched_beams_text}
 use Rattle.run_stop.specs.declared.stop.Stop.{Stop}
 use Rattle.run_stop.specs.declared.stop.Stop.TheVariants.{Header, ReadFault, Gap, TooLong, TooMany, SinkFault}
-use Rattle.run_stop.specs.Runs.{stop_of_walk}
 use Rattle.run_stop.specs.Ends.{WordsSayOnce}
+use Rattle.run_stop.specs.Runs.{stop_of_walk}
 use Rattle.psr_beams.specs.Words.{SayBeams, within_in, more_in}
 use Rattle.psr_beams.specs.Seen.{told_at, calm_at, seen_at}
-use Rattle.psr_beams.specs.Files.{AreBeamsTold, ForBeams, beam_file, beam_name, beam_data, beam_stream, beams_observation, stream_of_one, IsReadOn}
-use Rattle.psr_beams.specs.Refusals.{CanSearch}
-use Rattle.psr_beams.specs.Found.{IsWhole, StopsBeam, AreWhole, count_in, HasTooMany, AreSearched, HaveText}
-use Rattle.psr_beams.specs.Stops.{IsStopOfBeams}
+use Rattle.psr_beams.specs.Files.{AreBeamsTold, ForBeams, ForSettings, beam_file, beam_name, beams_observation, IsReadOn}
+use Rattle.psr_beams.specs.Found.{HaveText}
+use Rattle.psr_beams.specs.EachBeam.{HaveHeadersAt, AreOfOneAt, RefusesLaterAt, CanSearchAt, IsWholeFile, AreWholeAt, IsTooLongFile, StopsBeamAt, count_of, AreFewAt, HasTooManyAt, AreSearchedAt}
+use Rattle.psr_beams.specs.Stops.{SaysOfBeams}
 use Rattle.psr_beams.specs.Outcome.{HoldsName, ReadsHeadersTo, ReadsDataTo, FailsFirst, IsTooLong, ReadsBeams}
 use Rattle.psr_beams.specs.Judged.{AreOfOne}
 use Rattle.psr_beams.specs.Driven.{HasCome, HasSlotCome, HaveCome, SlotBreaks, HaveBroken, ReadsAll}
-use Rattle.psr_beams.specs.Ends.{Ends, stop_of_beam, slot_stop, stop_in, counted_in, StopsFirst, NoneStops, CountsTooMany, NoneCountsTooMany, WritesFound, EndsWritten, EndsBeams}
-use Rattle.psr_beams.proofs.Counting.{element, seen_there, calm_there, stood, read_on, still, AllRead}
-use Rattle.psr_beams.proofs.Ended.{counts}
-use Rattle.psr_beams.proofs.Builders.{ends_at, judged_said, for_settings, none_stopped, reads_quietly, reads_failing, reads_long, reads_untold, fails_beam, fails_first}
-use Rattle.psr_beams.proofs.Stopped.{told_there, one_there, is_one, at_settings, head, are_accepted}
+use Rattle.psr_beams.specs.Ends.{Ends, stop_at_data, stop_at_header, slot_stop, stop_in, counted_in, StopsBy, NoneStopsBy, StopsFirst, NoneStops, CountsTooMany, NoneCountsTooMany, WritesFound, EndsWritten, EndsBeams}
+use Rattle.psr_beams.proofs.Counting.{seen_there, calm_there, stood, read_on, still, AllRead}
+use Rattle.psr_beams.proofs.Ended.{counted_is}
+use Rattle.psr_beams.proofs.Builders.{ends_at, judged_said, for_said, for_settings, searched_at, reads_quietly, reads_failing, reads_long, fails_beam, fails_first}
+use Rattle.psr_beams.proofs.Stopped.{told_there, one_there, is_one, at_settings, head, all_heads, are_of_one}
+use Rattle.psr_beams.proofs.Together.{searched}
 use Rattle.psr_beams.proofs.Opening.{all_say}
-
--- ---- the walk of one file that is accepted
-
-one_start : AreStarts (0 ∷ []) 1
-one_start = record {
-  some = omega arith;
-  first = refl;
-  rise = λ i below. absurd (omega (arith, below));
-  within = within;
-}
-  where
-    within : (i : ℕ) → i < 1 → get_or (0 ∷ []) i 1 < 1
-    within zero below = omega arith
-    within (suc i) below = absurd (omega (arith, below))
-
-is_walked : (s : SettingsSeen) (file : List ℕ) → IsAccepted file → AreWalked (stream_of_one s file)
-is_walked s file a = record { starts = one_start; accepted = accepted }
-  where
-    accepted : (transfer : ℕ) → transfer < 1 →
-        IsAccepted (file_at (stream_of_one s file) (begin_of (stream_of_one s file) transfer))
-    accepted zero below = a
-    accepted (suc k) below = absurd (omega (arith, below))
-
-stop_kind : (h : Option WalkStop) (b : Bool) → h ≡ None →
-    let at = first_or_whole (cons_option (first_of_two h (if b then Some (walk.TooLong 0) else None)) []) in
-    (at ≡ walk.Whole) ⊎ (at ≡ walk.TooLong 0)
-stop_kind h true none = inr (ap (λ x. first_or_whole (cons_option (first_of_two x (Some (walk.TooLong 0))) [])) none)
-stop_kind h false none = inl (ap (λ x. first_or_whole (cons_option (first_of_two x None) [])) none)
-
--- it is whole, or there are too many data
-walk_kind : FirstFilesContinue → (s : SettingsSeen) (file : List ℕ) → IsAccepted file →
-    (walk_stop (stream_of_one s file) ≡ walk.Whole) ⊎ (walk_stop (stream_of_one s file) ≡ walk.TooLong 0)
-unfolding walk_stop stop_at length_stop
-walk_kind law s file a =
-    let w = stream_of_one s file in
-    stop_kind (header_stop w 0) (nat_lt w.max_bytes (length (data_between w.files 0 1)))
-    (law w 0 (is_walked s file a) (omega arith))
-
--- and so is the end of its feeder
-abbrev EndKind : SettingsSeen → List ℕ → FeedEnd → Type 0
-EndKind s file end = (((n : ℕ) × (end ≡ feed.Whole n)) × (walk_stop (stream_of_one s file) ≡ walk.Whole))
-    ⊎ ((end ≡ feed.TooLong s.max_bytes) × (walk_stop (stream_of_one s file) ≡ walk.TooLong 0))
-
-end_kind : (s : SettingsSeen) (file : List ℕ) (end : FeedEnd) (bytes : ℕ) →
-    (walk_stop (stream_of_one s file) ≡ walk.Whole) ⊎ (walk_stop (stream_of_one s file) ≡ walk.TooLong 0) →
-    end ≡ end_of bytes s.max_bytes (walk_stop (stream_of_one s file)) → EndKind s file end
-end_kind s file end bytes (inl whole) is = inl ((bytes, is ∙ ap (end_of bytes s.max_bytes) whole), whole)
-end_kind s file end bytes (inr long) is = inr (is ∙ ap (end_of bytes s.max_bytes) long, long)
-
-past : {X : Type 0} (xs : List (Option X)) (k : ℕ) → length xs ≤ k → get_or xs k None ≡ None
-past [] k over = refl
-past (x ∷ xs) zero over = absurd (omega (arith, over))
-past (x ∷ xs) (suc k) over = past xs k (omega (arith, over))
-
--- the inputs of the beam of a slot failed
-abbrev pub slot_failed : Option BeamEnd → Type 0
-slot_failed None = ⊥
-slot_failed (Some end) = end.feed ≡ feed.ReadFault
-
-fails_stop : (k : ℕ) (slot : Option BeamEnd) → slot_failed slot → slot_stop k slot ≡ None → ⊥
-fails_stop k None failed none = failed
-fails_stop k (Some end) failed none =
-    let some : stop_of_beam k end.feed ≡ Some ReadFault = ap (stop_of_beam k) failed in cc
-
--- ---- the list of all data
-
-pub data_list : (o : Observation) (s : _) (ends : List (Option BeamEnd)) →
-    ((k : ℕ) → k < length ends → (bytes : List ℕ) × HoldsData o s bytes (get_or ends k None)) →
-    (data_of_beams : List (List ℕ)) × BeamsHoldData o s data_of_beams ends
-data_list o s [] held = ([], record { count = refl; each = λ k below. absurd (omega (arith, below)) })
-data_list o s (end ∷ ends) held =
-    let first = held 0 (omega arith) in
-    let rest = data_list o s ends (λ k below. held (suc k) (omega (arith, below))) in
-    let more = rest.1 in (
-      first.0 ∷ rest.0,
-      record {
-        count = let count = more.count in omega (arith, count);
-        each = each first.0 first.1 rest.0 more;
-      },
-    )
-  where
-    each : (bytes : List ℕ) → HoldsData o s bytes end → (list : List (List ℕ)) → BeamsHoldData o s list ends → (k : ℕ) →
-        k < length (bytes ∷ list) → HoldsData o s (get_or (bytes ∷ list) k []) (get_or (end ∷ ends) k None)
-    each bytes holds list more zero below = holds
-    each bytes holds list more (suc k) below = more.each k (omega (arith, below))
-
-module _ {I : Type 0} (told : I → Told) (is_calm : I → Type 0) (faults : I → ℕ) (s : SettingsSeen) (o : Observation)
-    (count : ℕ) (mid after : List I) (ends : List (Option BeamEnd))
-    (come : HaveCome told is_calm faults s o count mid after ends) (enough : count ≤ length mid) where
-  slot_data : (name : List ℕ) (x y : I) (k : ℕ) (slot : Option BeamEnd) →
-      HasSlotCome told is_calm faults s o name x y slot → slot_stop k slot ≡ None →
-      (bytes : List ℕ) × HoldsData o s.search bytes slot
-  slot_data name x y k None is none = absurd is
-  slot_data name x y k (Some end) is none = (is.bytes, is.held (whole end.feed none).0 (whole end.feed none).1)
-    where
-      whole : (e : FeedEnd) → stop_of_beam k e ≡ None → (n : ℕ) × (e ≡ feed.Whole n)
-      whole (feed.Whole n) e = (n, refl)
-      whole feed.ReadFault e = absurd cc
-      whole (feed.BadHeader file cause) e = absurd cc
-      whole (feed.Gap file expected found) e = absurd cc
-      whole (feed.TooLong limit) e = absurd cc
-
-  -- where no beam stopped, there are data that all ends hold
-  pub all_data : NoneStops ends → (data_of_beams : List (List ℕ)) × BeamsHoldData o s.search data_of_beams ends
-  all_data none = data_list o s.search ends (λ k below.
-      let many = come.many in
-      let within : k < count = omega (arith, below, many) in
-      let x = element mid k (omega (arith, within, enough)) in
-      slot_data (beam_name s k) (get_or mid k x) (get_or after k x) k (get_or ends k None) (come.each k x within)
-      (none k below))
+use Rattle.psr_beams.proofs.Walked.{walk_kind, EndKind, end_kind, past, slot_failed, fails_stop, slot_failing, stopped_failing, stopped_long, all_data}
 
 -- ---- how it ends
 
@@ -193,218 +83,256 @@ module _ {I : Type 0} (told : I → Told) (is_calm : I → Type 0) (faults : I �
     ];
   }
 
-  quiet_where : (k : ℕ) → stop_in ends k ≡ None → ¬ failed k
+  quiet_where : (k : ℕ) → stop_in stop_at_data ends k ≡ None → ¬ failed k
   quiet_where k none did = fails_stop k (get_or ends k None) did none
 
-  all_quiet : NoneStops ends → (k : ℕ) → ¬ failed k
+  all_quiet : NoneStopsBy stop_at_data ends → (k : ℕ) → ¬ failed k
   all_quiet none k did = elim (cases_lt k n) [
     | inl less ↦ let many = come.many in quiet_where k (none k (omega (arith, less, many))) did
     | inr over ↦ failed_there k over did
   ]
 
-  -- ---- the files
+  -- ---- the headers
 
-  module _ (files : List (List ℕ)) (are : AreBeamsTold (told_at told before) s.names files) where
-    begins : CanSearch s files × (beams_observation files ≡ o)
-    begins =
-        let a = are_accepted told is_calm faults words once s says before enough headers read.are files are rows o some
-        accepted in
-        (record { accepted = a.0; fits = ap (λ p. plan_refusal p s.search) a.1 ∙ fits }, a.1)
+  of_one : (count : ℕ) → count ≤ n → AreOfOneAt (told_at told before) s count o
+  of_one count few = are_of_one told is_calm faults words once s says before enough headers read.are rows o count some
+      few (record {
+        first = accepted.first;
+        later = λ k h pos less at. accepted.later k h pos (omega (arith, less, few)) at;
+      })
 
-    file_accepted : (k : ℕ) → k < n → IsAccepted (beam_file files k)
-    file_accepted k below =
-        let h = head told is_calm faults words once s says before enough headers read.are files are k below in
+  texts : (count : ℕ) → count ≤ n → HaveHeadersAt (told_at told before) s count
+  texts = all_heads told is_calm faults words once s says before enough headers read.are
+
+  abbrev begins : CanSearchAt (told_at told before) s
+  begins = record { observation = o; accepted = of_one n (omega arith); fits = fits }
+
+  -- ---- a beam whose file is told
+
+  module _ (k : ℕ) (below : k < n) (file : List ℕ)
+      (at : (told_at told before k).bytes_under (beam_name s k) ≡ Some file) where
+    file_accepted : IsAccepted file
+    file_accepted =
+        let h = head told is_calm faults words once s says before enough headers read.are k below in
         record {
           header = h.0;
           observation = o;
-          is_header = h.2;
+          is_header = h.2 file at;
           is_observation = all_say agree headers n o accepted (read.are.there 0 some) k below h.0 h.1;
         }
 
-    -- what is told of the file of a beam is told by the inputs at its place, once the headers were read
-    told_mid : (k : ℕ) (x : I) → k < n → (told (get_or mid k x)).bytes_under (beam_name s k) ≡ Some (beam_file files k)
-    told_mid k x below =
-        subst (λ (under : List ℕ → Option (List ℕ)). under (beam_name s k) ≡ Some (beam_file files k))
+    -- the inputs at its place tell it, once the headers were read
+    told_mid : (x : I) → (told (get_or mid k x)).bytes_under (beam_name s k) ≡ Some file
+    told_mid x = subst (λ (under : List ℕ → Option (List ℕ)). under (beam_name s k) ≡ Some file)
         (sym (read.read.each k x below).read.names)
-        (told_there told is_calm faults words once s says before enough files are k x below)
+        (told_there told is_calm faults words once s says before enough k x below file at)
 
-    kind_of : (k : ℕ) → k < n → (x y : I) → (told x).bytes_under (beam_name s k) ≡ Some (beam_file files k) →
-        (end : BeamEnd) → HasCome told is_calm faults s o (beam_name s k) x y end → end.feed ≢ feed.ReadFault →
-        EndKind s (beam_file files k) end.feed
-    kind_of k below x y at end is not =
-        let w = is.walked not (beam_file files k) at in
-        end_kind s (beam_file files k) end.feed w.0 (walk_kind law s (beam_file files k) (file_accepted k below)) w.1
+    kind_of : (x y : I) → (told x).bytes_under (beam_name s k) ≡ Some file → (end : BeamEnd) →
+        HasCome told is_calm faults s o (beam_name s k) x y end → end.feed ≢ feed.ReadFault → EndKind s file end.feed
+    kind_of x y there end is not =
+        let w = is.walked not file there in
+        end_kind s file end.feed w.0 (walk_kind law s file file_accepted) w.1
 
-    -- ---- a beam that did not stop
+    -- it did not stop: it was read whole
+    record IsRead (slot : Option BeamEnd) : Type 0 where
+      whole : IsWholeFile s file
+      holds : HoldsData o s.search (data_of file) slot
 
-    record IsRead (k : ℕ) (slot : Option BeamEnd) : Type 0 where
-      whole : IsWhole s files k
-      holds : HoldsData o s.search (beam_data files k) slot
-
-    slot_whole : (k : ℕ) → k < n → (x y : I) → (told x).bytes_under (beam_name s k) ≡ Some (beam_file files k) →
-        (slot : Option BeamEnd) → HasSlotCome told is_calm faults s o (beam_name s k) x y slot →
-        slot_stop k slot ≡ None → IsRead k slot
-    slot_whole k below x y at None is none = absurd is
-    slot_whole k below x y at (Some end) is none = by_kind (kind_of k below x y at end is not)
+    slot_whole : (x y : I) → (told x).bytes_under (beam_name s k) ≡ Some file → (slot : Option BeamEnd) →
+        HasSlotCome told is_calm faults s o (beam_name s k) x y slot → slot_stop stop_at_data k slot ≡ None →
+        IsRead slot
+    slot_whole x y there None is none = absurd is
+    slot_whole x y there (Some end) is none =
+        by_kind (kind_of x y there end is (λ e. fails_stop k (Some end) e none))
       where
-        not : end.feed ≢ feed.ReadFault
-        not e = fails_stop k (Some end) e none
-
-        by_kind : EndKind s (beam_file files k) end.feed → IsRead k (Some end)
+        by_kind : EndKind s file end.feed → IsRead (Some end)
         by_kind (inl (whole, walked)) =
-            let bytes = is.known whole.0 whole.1 (beam_file files k) at in
+            let bytes = is.known whole.0 whole.1 file there in
             record {
               whole = walked;
               holds = subst (λ b. HoldsData o s.search b (Some end)) bytes (is.held whole.0 whole.1);
             }
         by_kind (inr (long, walked)) =
-            let more : stop_of_beam k end.feed ≡ Some (TooLong s.max_bytes) = ap (stop_of_beam k) long in absurd cc
+            let more : stop_at_data k end.feed ≡ Some (TooLong s.max_bytes) = ap (stop_at_data k) long in absurd cc
 
-    whole_at : (k : ℕ) → k < n → stop_in ends k ≡ None → IsRead k (get_or ends k None)
-    whole_at k below none =
+    whole_at : stop_in stop_at_data ends k ≡ None → IsRead (get_or ends k None)
+    whole_at none =
         let x = one_there told is_calm faults words once s says before enough k below in
-        slot_whole k below (get_or mid k x) (get_or after k x) (told_mid k x below) (get_or ends k None)
-        (come.each k x below) none
+        slot_whole (get_or mid k x) (get_or after k x) (told_mid x) (get_or ends k None) (come.each k x below) none
 
-    all_whole : NoneStops ends → AreWhole s files
-    all_whole none = record {
-      begins = begins.0;
-      whole = λ k below.
-          let count = are.count in let many = come.many in
-          (whole_at k (omega (arith, below, count)) (none k (omega (arith, below, count, many)))).whole;
-    }
-
-    hold_files : NoneStops ends → BeamsHoldData o s.search (map data_of files) ends
-    hold_files none = record {
-      count = let count = are.count in let many = come.many in let same = length-map files data_of in
-          omega (arith, count, many, same);
-      each = λ k below.
-          let count = are.count in let many = come.many in let same = length-map files data_of in
-          let there : k < length files = omega (arith, below, same) in
-          let within : k < n = omega (arith, there, count) in
-          let r = whole_at k within (none k (omega (arith, within, many))) in
-          subst (λ b. HoldsData o s.search b (get_or ends k None))
-          (sym (get_or-map data_of files k [] [] there)) r.holds;
-    }
-
-    counted : NoneStops ends → (k : ℕ) → k < n → counted_in ends k ≡ count_in s files k
-    counted none k below =
-        let many = come.many in let count = are.count in
-        counts ends o s.search (map data_of files) k (hold_files none) (omega (arith, below, many))
-        ∙ ap (λ b. length (candidates_of o s.search b)) (get_or-map data_of files k [] [] (omega (arith, below, count)))
-        ∙ ap (λ p. length (candidates_of p s.search (beam_data files k))) (sym begins.1)
-
-    all_searched : NoneStops ends → NoneCountsTooMany ends s.search.max_candidates → AreSearched s files
-    all_searched none few = record {
-      read = all_whole none;
-      few = λ k below.
-          let count = are.count in let many = come.many in
-          let within : k < n = omega (arith, below, count) in
-          subst (λ m. m ≤ s.search.max_candidates) (counted none k within) (few k (omega (arith, within, many)));
-    }
-
-    -- ---- a beam that stopped
-
-    too_many : (stop : Stop) → NoneStops ends → (r : CountsTooMany ends s.search.max_candidates stop) →
-        HasTooMany s files (counted_in ends r.beam) s.search.max_candidates
-    too_many stop none r =
-        let there = r.there in let count = are.count in let many = come.many in
-        let within : r.beam < n = omega (arith, there, many) in
-        record {
-          read = all_whole none;
-          beam = r.beam;
-          there = omega (arith, within, count);
-          counted = sym (counted none r.beam within);
-          limit_is = refl;
-          many = r.many;
-          earlier = λ k less.
-              subst (λ m. m ≤ s.search.max_candidates) (counted none k (omega (arith, less, within)))
-              (r.earlier k less);
-        }
-
-    too_long : (limit : ℕ) (first : Stop) → first ≡ TooLong limit → StopsFirst ends first →
-        StopsBeam s files (TooLong limit)
-    too_long limit first same r =
-        let there = r.there in let count = are.count in let many = come.many in
-        let within : r.beam < n = omega (arith, there, many) in
-        let x = one_there told is_calm faults words once s says before enough r.beam within in
-        record {
-          begins = begins.0;
-          beam = r.beam;
-          there = omega (arith, within, count);
-          stops = by_slot (get_or mid r.beam x) (get_or after r.beam x) (told_mid r.beam x within)
-              (get_or ends r.beam None)
-              (come.each r.beam x within) (r.is ∙ ap (λ y. Some y) same);
-          earlier = λ k less. (whole_at k (omega (arith, less, within)) (r.earlier k less)).whole;
-        }
+    -- it stopped at its data: there are too many
+    slot_long : (x y : I) → (told x).bytes_under (beam_name s k) ≡ Some file → (slot : Option BeamEnd) →
+        HasSlotCome told is_calm faults s o (beam_name s k) x y slot → (limit : ℕ) →
+        slot_stop stop_at_data k slot ≡ Some (TooLong limit) → IsTooLongFile s limit file
+    slot_long x y there None is limit stop = absurd is
+    slot_long x y there (Some end) is limit stop = by_kind (kind_of x y there end is not)
       where
-        by_slot : (x y : I) → (told x).bytes_under (beam_name s r.beam) ≡ Some (beam_file files r.beam) →
-            (slot : Option BeamEnd) → HasSlotCome told is_calm faults s o (beam_name s r.beam) x y slot →
-            slot_stop r.beam slot ≡ Some (TooLong limit) →
-            stop_of_walk s.max_bytes (walk_stop (beam_stream s files r.beam)) ≡ Some (TooLong limit)
-        by_slot x y at None is stop = absurd cc
-        by_slot x y at (Some end) is stop = by_kind (kind_of r.beam below x y at end is not)
-          where
-            below : r.beam < n
-            below = let there = r.there in let many = come.many in omega (arith, there, many)
+        not : end.feed ≢ feed.ReadFault
+        not e = let other : stop_at_data k end.feed ≡ Some ReadFault = ap (stop_at_data k) e in cc
 
-            not : end.feed ≢ feed.ReadFault
-            not e = let some : stop_of_beam r.beam end.feed ≡ Some ReadFault = ap (stop_of_beam r.beam) e in cc
+        by_kind : EndKind s file end.feed → IsTooLongFile s limit file
+        by_kind (inl (whole, walked)) =
+            let none : stop_at_data k end.feed ≡ None = ap (stop_at_data k) whole.1 in absurd cc
+        by_kind (inr (long, walked)) =
+            let more : stop_at_data k end.feed ≡ Some (TooLong s.max_bytes) = ap (stop_at_data k) long in
+            ap (stop_of_walk s.max_bytes) walked ∙ sym more ∙ stop
 
-            by_kind : EndKind s (beam_file files r.beam) end.feed →
-                stop_of_walk s.max_bytes (walk_stop (beam_stream s files r.beam)) ≡ Some (TooLong limit)
-            by_kind (inl (whole, walked)) =
-                let none : stop_of_beam r.beam end.feed ≡ None = ap (stop_of_beam r.beam) whole.1 in absurd cc
-            by_kind (inr (long, walked)) =
-                let more : stop_of_beam r.beam end.feed ≡ Some (TooLong s.max_bytes) = ap (stop_of_beam r.beam) long in
-                ap (stop_of_walk s.max_bytes) walked ∙ sym more ∙ stop
+    long_at : (limit : ℕ) → stop_in stop_at_data ends k ≡ Some (TooLong limit) → IsTooLongFile s limit file
+    long_at limit stop =
+        let x = one_there told is_calm faults words once s says before enough k below in
+        slot_long (get_or mid k x) (get_or after k x) (told_mid x) (get_or ends k None) (come.each k x below) limit stop
 
-    -- and no call of its inputs failed, nor of those of the beams before it
-    lowest : (limit : ℕ) → StopsFirst ends (TooLong limit) → IsTooLong s files (seen_at told faults before after)
-    unfolding too_long
-    lowest limit r = record {
-      limit = limit;
-      long = too_long limit (TooLong limit) refl r;
-      quiet = λ k most. still told is_calm faults failed before after all k (not k most);
-    }
+    -- no beam stops at its header once it was accepted
+    slot_heads : (x y : I) → (told x).bytes_under (beam_name s k) ≡ Some file → (slot : Option BeamEnd) →
+        HasSlotCome told is_calm faults s o (beam_name s k) x y slot → (first : Stop) →
+        slot_stop stop_at_header k slot ≡ Some first → ⊥
+    slot_heads x y there None is first stop = is
+    slot_heads x y there (Some end) is first stop = by_kind (kind_of x y there end is not)
       where
-        own : (slot : Option BeamEnd) → slot_stop r.beam slot ≡ Some (TooLong limit) → ¬ slot_failed slot
-        own None is failed = failed
-        own (Some end) is failed =
-            let some : stop_of_beam r.beam end.feed ≡ Some ReadFault = ap (stop_of_beam r.beam) failed in cc
+        not : end.feed ≢ feed.ReadFault
+        not e = let none : stop_at_header k end.feed ≡ None = ap (stop_at_header k) e in cc
 
-        not : (k : ℕ) → k ≤ r.beam → ¬ failed k
-        not k most = elim (cases_lt k r.beam) [
-          | inl less ↦ quiet_where k (r.earlier k less)
+        by_kind : EndKind s file end.feed → ⊥
+        by_kind (inl (whole, walked)) =
+            let none : stop_at_header k end.feed ≡ None = ap (stop_at_header k) whole.1 in cc
+        by_kind (inr (long, walked)) =
+            let none : stop_at_header k end.feed ≡ None = ap (stop_at_header k) long in cc
+
+    no_header : (first : Stop) → stop_in stop_at_header ends k ≡ Some first → ⊥
+    no_header first stop =
+        let x = one_there told is_calm faults words once s says before enough k below in
+        slot_heads (get_or mid k x) (get_or after k x) (told_mid x) (get_or ends k None) (come.each k x below) first
+        stop
+
+    counted_at : stop_in stop_at_data ends k ≡ None → counted_in ends k ≡ count_of o s file
+    counted_at none = counted_is ends o s.search (data_of file) (get_or ends k None) (whole_at none).holds
+
+  -- ---- beams that did not stop
+
+  whole_to : (count : ℕ) → count ≤ n → ((k : ℕ) → k < count → stop_in stop_at_data ends k ≡ None) →
+      AreWholeAt (told_at told before) s count
+  whole_to count few none k less file at = (whole_at k (omega (arith, less, few)) file at (none k less)).whole
+
+  all_none : NoneStopsBy stop_at_data ends → (k : ℕ) → k < n → stop_in stop_at_data ends k ≡ None
+  all_none none k less = let many = come.many in none k (omega (arith, less, many))
+
+  all_whole : NoneStopsBy stop_at_data ends → AreWholeAt (told_at told before) s n
+  all_whole none = whole_to n (omega arith) (all_none none)
+
+  few_to : (count : ℕ) → count ≤ n → NoneStopsBy stop_at_data ends →
+      ((k : ℕ) → k < count → counted_in ends k ≤ s.search.max_candidates) →
+      AreFewAt (told_at told before) s o count
+  few_to count few none least k less file at =
+      let below : k < n = omega (arith, less, few) in
+      subst (λ m. m ≤ s.search.max_candidates) (counted_at k below file at (all_none none k below)) (least k less)
+
+  all_searched : NoneStopsBy stop_at_data ends → NoneCountsTooMany ends s.search.max_candidates →
+      AreSearchedAt (told_at told before) s
+  all_searched none few = record {
+    begins = begins;
+    whole = all_whole none;
+    few = few_to n (omega arith) none (λ k less. let many = come.many in few k (omega (arith, less, many)));
+  }
+
+  -- ---- a beam that stopped
+
+  stopped_there : (stop_of : ℕ → FeedEnd → Option Stop) (stop : Stop) (r : StopsBy stop_of ends stop) → r.beam < n
+  stopped_there stop_of stop r = let there = r.there in let many = come.many in omega (arith, there, many)
+
+  too_many : (stop : Stop) → NoneStopsBy stop_at_data ends → (r : CountsTooMany ends s.search.max_candidates stop) →
+      HasTooManyAt (told_at told before) s (counted_in ends r.beam) s.search.max_candidates
+  too_many stop none r =
+      let there = r.there in let many = come.many in
+      let within : r.beam < n = omega (arith, there, many) in
+      record {
+        begins = begins;
+        whole = all_whole none;
+        beam = r.beam;
+        there = within;
+        counted = λ file at. sym (counted_at r.beam within file at (all_none none r.beam within));
+        limit_is = refl;
+        many = r.many;
+        earlier = few_to r.beam (omega (arith, within)) none (λ k less. r.earlier k less);
+      }
+
+  -- the limit is that of the settings
+  slot_limit : (name : List ℕ) (x y : I) (k limit : ℕ) (slot : Option BeamEnd) →
+      HasSlotCome told is_calm faults s o name x y slot → slot_stop stop_at_data k slot ≡ Some (TooLong limit) →
+      limit ≡ s.max_bytes
+  slot_limit name x y k limit None is stop = absurd is
+  slot_limit name x y k limit (Some end) is stop = is.limit limit (stopped_long k limit end.feed stop)
+
+  limit_at : (limit : ℕ) → StopsBy stop_at_data ends (TooLong limit) → limit ≡ s.max_bytes
+  limit_at limit r =
+      let within = stopped_there stop_at_data (TooLong limit) r in
+      let x = one_there told is_calm faults words once s says before enough r.beam within in
+      slot_limit (beam_name s r.beam) (get_or mid r.beam x) (get_or after r.beam x) r.beam limit
+      (get_or ends r.beam None) (come.each r.beam x within) r.is
+
+  abbrev too_long : (r : StopsBy stop_at_data ends (TooLong s.max_bytes)) →
+      StopsBeamAt (told_at told before) s s.max_bytes
+  too_long r =
+      let within = stopped_there stop_at_data (TooLong s.max_bytes) r in
+      record {
+        begins = begins;
+        limit_is = refl;
+        beam = r.beam;
+        there = within;
+        long = λ file at. long_at r.beam within file at s.max_bytes r.is;
+        earlier = whole_to r.beam (omega (arith, within)) (λ k less. r.earlier k less);
+      }
+
+  -- and no call of its inputs failed, nor of those of the beams before it
+  lowest : StopsBy stop_at_data ends (TooLong s.max_bytes) → IsTooLong s (seen_at told faults before after)
+  lowest r = record {
+    long = too_long r;
+    quiet = λ k most. still told is_calm faults failed before after all k (not k most);
+  }
+    where
+      own : (slot : Option BeamEnd) → slot_stop stop_at_data r.beam slot ≡ Some (TooLong s.max_bytes) →
+          ¬ slot_failed slot
+      own None is did = did
+      own (Some end) is did =
+          let other : stop_at_data r.beam end.feed ≡ Some ReadFault = ap (stop_at_data r.beam) did in cc
+
+      not : (k : ℕ) → k ≤ r.beam → ¬ failed k
+      not k most = elim (cases_lt k r.beam) [
+        | inl less ↦ quiet_where k (r.earlier k less)
+        | inr over ↦
+            let same : r.beam ≡ k = omega (arith, most, over) in
+            subst (λ j. ¬ failed j) same (own (get_or ends r.beam None) r.is)
+      ]
+
+  -- a beam that stops at its header once it was accepted isn't told
+  later_untold : (stop first : Stop) (r : StopsBy stop_at_header ends first) →
+      RefusesLaterAt (told_at told before) s r.beam stop
+  later_untold stop first r =
+      let within = stopped_there stop_at_header first r in
+      record {
+        texts = texts n (omega arith);
+        there = within;
+        later = λ file at. elim (cases_lt 0 r.beam) [
+          | inl less ↦ less
           | inr over ↦
-              let same : r.beam ≡ k = omega (arith, most, over) in
-              subst (λ j. ¬ failed j) same (own (get_or ends r.beam None) r.is)
-        ]
+              let same : 0 ≡ r.beam = omega (arith, over) in
+              absurd (no_header r.beam within file (subst (λ k. (told_at told before k).bytes_under (beam_name s k)
+              ≡ Some file) same at) first r.is)
+        ];
+        observation = o;
+        earlier = of_one r.beam (omega (arith, within));
+        refused = λ file at. absurd (no_header r.beam within file at first r.is);
+      }
 
-    -- no beam stops at its header once it was read
-    no_header : (first : Stop) → (r : StopsFirst ends first) →
-        ((e : FeedEnd) → stop_of_beam r.beam e ≡ Some first → e ≢ feed.ReadFault) →
-        ((n : ℕ) → first ≢ TooLong n) → ⊥
-    no_header first r not other =
-        let there = r.there in let many = come.many in
-        let within : r.beam < n = omega (arith, there, many) in
-        let x = one_there told is_calm faults words once s says before enough r.beam within in
-        by_slot within (get_or mid r.beam x) (get_or after r.beam x) (told_mid r.beam x within)
-        (get_or ends r.beam None)
-        (come.each r.beam x within) r.is
-      where
-        by_slot : r.beam < n → (x y : I) → (told x).bytes_under (beam_name s r.beam) ≡ Some (beam_file files r.beam) →
-            (slot : Option BeamEnd) → HasSlotCome told is_calm faults s o (beam_name s r.beam) x y slot →
-            slot_stop r.beam slot ≡ Some first → ⊥
-        by_slot below x y at None is stop = cc
-        by_slot below x y at (Some end) is stop = by_kind (kind_of r.beam below x y at end is (not end.feed stop))
-          where
-            by_kind : EndKind s (beam_file files r.beam) end.feed → ⊥
-            by_kind (inl (whole, walked)) =
-                let none : stop_of_beam r.beam end.feed ≡ None = ap (stop_of_beam r.beam) whole.1 in cc
-            by_kind (inr (long, walked)) =
-                let more : stop_of_beam r.beam end.feed ≡ Some (TooLong s.max_bytes) = ap (stop_of_beam r.beam) long in
-                other s.max_bytes (let same : first ≡ TooLong s.max_bytes = cc in same)
+  header_untold : (cause : HeaderCause) (first : Stop) (r : StopsBy stop_at_header ends first) →
+      SaysOfBeams (told_at told before) s (Header r.beam cause)
+  header_untold (Text fault) first r =
+      let within = stopped_there stop_at_header first r in
+      record {
+        there = within;
+        refused = λ file at. absurd (no_header r.beam within file at first r.is);
+        earlier = texts r.beam (omega (arith, within));
+      }
+  header_untold (Fields fault) first r = inr (later_untold (Header r.beam (Fields fault)) first r)
 
   -- ---- by what it came to
 
@@ -412,23 +340,14 @@ module _ {I : Type 0} (told : I → Told) (is_calm : I → Type 0) (faults : I �
     abbrev EndsAt : Option Stop → Type 0
     EndsAt stop = Ends words (seen_at told faults before after) (calm_at is_calm before) out out' stop
 
-    abbrev stops_so : Stop → Type 0
-    stops_so stop = (files : List (List ℕ)) → AreBeamsTold (told_at told before) s.names files →
-        IsStopOfBeams s files stop
-
-    for_files : (stop : Stop) → stops_so stop →
-        ForBeams words (told_at told before) (λ t files. IsStopOfBeams t files stop)
-    for_files stop is = for_settings words (told_at told before) once s says (λ t files. IsStopOfBeams t files stop) is
-
-    for_none : (P : (files : List (List ℕ)) → AreBeamsTold (told_at told before) s.names files → ⊥) →
-        ForBeams words (told_at told before) (λ t files. ⊥)
-    for_none none = for_settings words (told_at told before) once s says (λ t files. ⊥) none
+    said : (stop : Stop) → SaysOfBeams (told_at told before) s stop →
+        ForSettings words (λ t. SaysOfBeams (told_at told before) t stop)
+    said stop is = for_said words (told_at told before) once s says (λ t. SaysOfBeams (told_at told before) t stop) is
 
     module _ (same : out' ≡ out) where
-      at_fault : StopsFirst ends ReadFault → EndsAt (Some ReadFault)
+      at_fault : StopsBy stop_at_data ends ReadFault → EndsAt (Some ReadFault)
       at_fault r =
-          let there = r.there in let many = come.many in
-          let within : r.beam < n = omega (arith, there, many) in
+          let within = stopped_there stop_at_data ReadFault r in
           let inside : r.beam < length before = omega (arith, within, enough) in
           let x = one_there told is_calm faults words once s says before enough r.beam within in
           ends_at words _ _ out out' ReadFault (5, lit< tt, refl) (λ e. omega (arith, e)) (λ e. omega (arith, e)) same
@@ -436,7 +355,7 @@ module _ {I : Type 0} (told : I → Told) (is_calm : I → Type 0) (faults : I �
           (reads_failing told is_calm faults words failed before after all
           (fails_beam told is_calm faults words failed before after all r.beam inside
           (is_one told is_calm faults words once s says before enough r.beam within)
-          (did (get_or ends r.beam None) r.is) (λ k less. quiet_where k (r.earlier k less))
+          (slot_failing r.beam (get_or ends r.beam None) r.is) (λ k less. quiet_where k (r.earlier k less))
           (λ calm. at_settings told is_calm faults words once s says before enough
           (λ t. HoldsName (told_at told before r.beam) t r.beam → ⊥) (λ holds.
           serves (get_or mid r.beam x) (get_or after r.beam x) (get_or ends r.beam None)
@@ -445,94 +364,94 @@ module _ {I : Type 0} (told : I → Told) (is_calm : I → Type 0) (faults : I �
           (subst (λ (under : List ℕ → Option (List ℕ)). IsSome (under (beam_name s r.beam)))
           (sym (read.read.each r.beam x within).read.names)
           (subst (λ (t : Told). IsSome (t.bytes_under (beam_name s r.beam)))
-          (seen_there told nothing_told before r.beam x inside) holds))))))
-          tt (λ t files said are. tt)
+          (seen_there told nothing_told before r.beam x inside) holds))))
+          (for_said words (told_at told before) once s says
+          (λ t. HaveHeadersAt (told_at told before) t r.beam) (texts r.beam (omega (arith, within))))))
+          tt (said ReadFault tt)
         where
-          fault_of : (e : FeedEnd) → stop_of_beam r.beam e ≡ Some ReadFault → e ≡ feed.ReadFault
-          fault_of (feed.Whole bytes) is = absurd cc
-          fault_of feed.ReadFault is = refl
-          fault_of (feed.BadHeader file cause) is = absurd cc
-          fault_of (feed.Gap file expected found) is = absurd cc
-          fault_of (feed.TooLong limit) is = absurd cc
-
-          did : (slot : Option BeamEnd) → slot_stop r.beam slot ≡ Some ReadFault → slot_failed slot
-          did None is = absurd cc
-          did (Some end) is = fault_of end.feed is
-
           serves : (x y : I) (slot : Option BeamEnd) →
               HasSlotCome told is_calm faults s o (beam_name s r.beam) x y slot →
-              slot_stop r.beam slot ≡ Some ReadFault →
+              slot_stop stop_at_data r.beam slot ≡ Some ReadFault →
               is_calm x → IsSome ((told x).bytes_under (beam_name s r.beam)) → ⊥
           serves x y None c is calm holds = absurd c
-          serves x y (Some end) c is calm holds = c.serves calm holds (fault_of end.feed is)
+          serves x y (Some end) c is calm holds = c.serves calm holds (stopped_failing r.beam end.feed is)
 
-      at_long : (limit : ℕ) → StopsFirst ends (TooLong limit) → EndsAt (Some (TooLong limit))
-      at_long limit r = ends_at words _ _ out out' (TooLong limit) (7, lit< tt, refl) (λ e. omega (arith, e))
+      at_most : StopsBy stop_at_data ends (TooLong s.max_bytes) → EndsAt (Some (TooLong s.max_bytes))
+      at_most r = ends_at words _ _ out out' (TooLong s.max_bytes) (7, lit< tt, refl) (λ e. omega (arith, e))
           (λ e. omega (arith, e)) same (judged_said words s 8 says (λ e. omega (arith, e)))
           (reads_long told is_calm faults words failed before after all
-          (for_settings words (told_at told before) once s says
-          (λ t files. IsTooLong t files (seen_at told faults before after)) (λ files are. lowest files are limit r))) tt
-          (for_files (TooLong limit) (λ files are. too_long files are limit (TooLong limit) refl r))
+          (for_said words (told_at told before) once s says
+          (λ t. IsTooLong t (seen_at told faults before after)) (lowest r))) tt
+          (said (TooLong s.max_bytes) (too_long r))
 
-      at_header : (beam : ℕ) (cause : _) → StopsFirst ends (Header beam cause) → EndsAt (Some (Header beam cause))
-      at_header beam cause r =
-          let none : (files : List (List ℕ)) → AreBeamsTold (told_at told before) s.names files → ⊥ =
-          λ files are. no_header files are (Header beam cause) r (λ e is fault. header_not e is fault) (λ m e. cc) in
-          ends_at words _ _ out out' (Header beam cause) (2, lit< tt, refl) (λ e. omega (arith, e))
+      at_long : (limit : ℕ) → StopsBy stop_at_data ends (TooLong limit) → EndsAt (Some (TooLong limit))
+      at_long limit r =
+          let is = limit_at limit r in
+          subst (λ m. EndsAt (Some (TooLong m))) (sym is)
+          (at_most (subst (λ m. StopsBy stop_at_data ends (TooLong m)) is r))
+
+      at_header : NoneStopsBy stop_at_data ends → (cause : HeaderCause) (first : Stop)
+          (r : StopsBy stop_at_header ends first) → EndsAt (Some (Header r.beam cause))
+      at_header none cause first r =
+          ends_at words _ _ out out' (Header r.beam cause) (2, lit< tt, refl) (λ e. omega (arith, e))
           (λ e. omega (arith, e)) same (judged_said words s 3 says (λ e. omega (arith, e)))
-          (reads_untold told is_calm faults words failed before after all 3 (λ e. omega (arith, e))
-          (λ e. omega (arith, e)) (λ e. omega (arith, e))
-          (λ e. omega (arith, e)) (λ e. omega (arith, e)) (λ e. omega (arith, e)) (λ e. omega (arith, e))
-          (λ e. omega (arith, e)) (for_none none))
-          tt (for_files (Header beam cause) (λ files are. absurd (none files are)))
-        where
-          header_not : (e : FeedEnd) → stop_of_beam r.beam e ≡ Some (Header beam cause) → e ≢ feed.ReadFault
-          header_not e is fault =
-              let some : stop_of_beam r.beam e ≡ Some ReadFault = ap (stop_of_beam r.beam) fault in cc
+          (reads_quietly told is_calm faults words failed before after all 3 (λ e. omega (arith, e))
+          (λ e. omega (arith, e)) (all_quiet none))
+          tt (said (Header r.beam cause) (header_untold cause first r))
 
-      at_gap : (beam expected found : ℕ) → StopsFirst ends (Gap beam expected found) →
-          EndsAt (Some (Gap beam expected found))
-      at_gap beam expected found r =
-          let none : (files : List (List ℕ)) → AreBeamsTold (told_at told before) s.names files → ⊥ =
-          λ files are. no_header files are (Gap beam expected found) r (λ e is fault. gap_not e is fault) (λ m e. cc) in
-          ends_at words _ _ out out' (Gap beam expected found) (6, lit< tt, refl) (λ e. omega (arith, e))
+      at_gap : NoneStopsBy stop_at_data ends → (expected found : ℕ) (first : Stop)
+          (r : StopsBy stop_at_header ends first) → EndsAt (Some (Gap r.beam expected found))
+      at_gap none expected found first r =
+          ends_at words _ _ out out' (Gap r.beam expected found) (6, lit< tt, refl) (λ e. omega (arith, e))
           (λ e. omega (arith, e)) same (judged_said words s 7 says (λ e. omega (arith, e)))
-          (reads_untold told is_calm faults words failed before after all 7 (λ e. omega (arith, e))
-          (λ e. omega (arith, e)) (λ e. omega (arith, e))
-          (λ e. omega (arith, e)) (λ e. omega (arith, e)) (λ e. omega (arith, e)) (λ e. omega (arith, e))
-          (λ e. omega (arith, e)) (for_none none))
-          tt (for_files (Gap beam expected found) (λ files are. absurd (none files are)))
-        where
-          gap_not : (e : FeedEnd) → stop_of_beam r.beam e ≡ Some (Gap beam expected found) → e ≢ feed.ReadFault
-          gap_not e is fault =
-              let some : stop_of_beam r.beam e ≡ Some ReadFault = ap (stop_of_beam r.beam) fault in cc
+          (reads_quietly told is_calm faults words failed before after all 7 (λ e. omega (arith, e))
+          (λ e. omega (arith, e)) (all_quiet none))
+          tt (said (Gap r.beam expected found) (later_untold (Gap r.beam expected found) first r))
 
-      -- the lowest beam that stopped
-      at_first : (first : Stop) → StopsFirst ends first → EndsAt (Some first)
-      at_first first r = by_slot (get_or ends r.beam None) r.is
-        where
-          is_first : (a : Stop) → Some a ≡ Some first → a ≡ first
-          is_first a e = cc
+      is_first : (a first : Stop) → Some a ≡ Some first → a ≡ first
+      is_first a first e = cc
 
-          by_end : (e : FeedEnd) → stop_of_beam r.beam e ≡ Some first → EndsAt (Some first)
+      -- the lowest beam that stopped at its data
+      at_data : (first : Stop) → StopsBy stop_at_data ends first → EndsAt (Some first)
+      at_data first r = by_slot (get_or ends r.beam None) r.is
+        where
+          by_end : (e : FeedEnd) → stop_at_data r.beam e ≡ Some first → EndsAt (Some first)
           by_end (feed.Whole bytes) is = absurd cc
           by_end feed.ReadFault is =
-              let eq = is_first ReadFault is in
-              subst (λ x. EndsAt (Some x)) eq (at_fault (subst (λ x. StopsFirst ends x) (sym eq) r))
-          by_end (feed.BadHeader file cause) is =
-              let eq = is_first (Header r.beam cause) is in
-              subst (λ x. EndsAt (Some x)) eq (at_header r.beam cause (subst (λ x. StopsFirst ends x) (sym eq) r))
-          by_end (feed.Gap file expected found) is =
-              let eq = is_first (Gap r.beam expected found) is in
-              subst (λ x. EndsAt (Some x)) eq
-              (at_gap r.beam expected found (subst (λ x. StopsFirst ends x) (sym eq) r))
+              let eq = is_first ReadFault first is in
+              subst (λ x. EndsAt (Some x)) eq (at_fault (subst (λ x. StopsBy stop_at_data ends x) (sym eq) r))
+          by_end (feed.BadHeader file cause) is = absurd cc
+          by_end (feed.Gap file expected found) is = absurd cc
           by_end (feed.TooLong limit) is =
-              let eq = is_first (TooLong limit) is in
-              subst (λ x. EndsAt (Some x)) eq (at_long limit (subst (λ x. StopsFirst ends x) (sym eq) r))
+              let eq = is_first (TooLong limit) first is in
+              subst (λ x. EndsAt (Some x)) eq (at_long limit (subst (λ x. StopsBy stop_at_data ends x) (sym eq) r))
 
-          by_slot : (slot : Option BeamEnd) → slot_stop r.beam slot ≡ Some first → EndsAt (Some first)
+          by_slot : (slot : Option BeamEnd) → slot_stop stop_at_data r.beam slot ≡ Some first → EndsAt (Some first)
           by_slot None is = absurd cc
           by_slot (Some end) is = by_end end.feed is
+
+      -- or at its header
+      at_head : NoneStopsBy stop_at_data ends → (first : Stop) → StopsBy stop_at_header ends first →
+          EndsAt (Some first)
+      at_head none first r = by_slot (get_or ends r.beam None) r.is
+        where
+          by_end : (e : FeedEnd) → stop_at_header r.beam e ≡ Some first → EndsAt (Some first)
+          by_end (feed.Whole bytes) is = absurd cc
+          by_end feed.ReadFault is = absurd cc
+          by_end (feed.BadHeader file cause) is =
+              subst (λ x. EndsAt (Some x)) (is_first (Header r.beam cause) first is) (at_header none cause first r)
+          by_end (feed.Gap file expected found) is =
+              subst (λ x. EndsAt (Some x)) (is_first (Gap r.beam expected found) first is)
+              (at_gap none expected found first r)
+          by_end (feed.TooLong limit) is = absurd cc
+
+          by_slot : (slot : Option BeamEnd) → slot_stop stop_at_header r.beam slot ≡ Some first → EndsAt (Some first)
+          by_slot None is = absurd cc
+          by_slot (Some end) is = by_end end.feed is
+
+      at_first : (first : Stop) → StopsFirst ends first → EndsAt (Some first)
+      at_first first (inl r) = at_data first r
+      at_first first (inr (none, r)) = at_head none first r
 
       at_many : (many : Stop) → NoneStops ends → CountsTooMany ends s.search.max_candidates many → EndsAt (Some many)
       at_many many none r =
@@ -542,10 +461,28 @@ module _ {I : Type 0} (told : I → Told) (is_calm : I → Type 0) (faults : I �
           (ends_at words _ _ out out' (TooMany count limit) (8, lit< tt, refl) (λ e. omega (arith, e))
           (λ e. omega (arith, e)) same (judged_said words s 9 says (λ e. omega (arith, e)))
           (reads_quietly told is_calm faults words failed before after all 9 (λ e. omega (arith, e))
-          (λ e. omega (arith, e)) (all_quiet none))
-          tt (for_files (TooMany count limit) (λ files are. too_many files are many none r)))
+          (λ e. omega (arith, e)) (all_quiet none.0))
+          tt (said (TooMany count limit) (too_many many none.0 r)))
 
-    -- the text, or its front
+    -- ---- the text, or its front
+
+    module _ (files : List (List ℕ)) (are : AreBeamsTold (told_at told before) s.names files) where
+      observed : beams_observation files ≡ o
+      observed = (begins.accepted.first (beam_file files 0) (are.each 0 some)).is
+
+      hold_files : NoneStops ends → BeamsHoldData o s.search (map data_of files) ends
+      hold_files none = record {
+        count = let count = are.count in let many = come.many in let same = length-map files data_of in
+            omega (arith, count, many, same);
+        each = λ k below.
+            let count = are.count in let same = length-map files data_of in
+            let there : k < length files = omega (arith, below, same) in
+            let within : k < n = omega (arith, there, count) in
+            let r = whole_at k within (beam_file files k) (are.each k within) (all_none none.0 k within) in
+            subst (λ b. HoldsData o s.search b (get_or ends k None))
+            (sym (get_or-map data_of files k [] [] there)) r.holds;
+      }
+
     at_text : (stop : Option Stop) →
         EndsWritten o s.search (within_in words) (more_in words) ends out out' stop → EndsAt stop
     at_text stop r = by_kind r.kind
@@ -558,15 +495,19 @@ module _ {I : Type 0} (told : I → Told) (is_calm : I → Type 0) (faults : I �
             P (searched_beams_text o s.search (within_in words) (more_in words) data_of_beams)) →
             ForBeams words (told_at told before) (HaveText words P)
         text P wrote = for_settings words (told_at told before) once s says (HaveText words P) (λ files are. (
-          all_searched files are r.whole r.few,
+          searched (told_at told before) s files are some (all_searched r.whole.0 r.few),
           subst (λ p. P (searched_beams_text p s.search (within_in words) (more_in words) (map data_of files)))
-              (sym (begins files are).1) (wrote (map data_of files) (hold_files files are r.whole)),
+              (sym (observed files are)) (wrote (map data_of files) (hold_files files are r.whole)),
         ))
+
+        are_searched : ForSettings words (λ t. AreSearchedAt (told_at told before) t)
+        are_searched = for_said words (told_at told before) once s says
+            (λ t. AreSearchedAt (told_at told before) t) (all_searched r.whole.0 r.few)
 
         read_all : (m : ℕ) → m ≢ 6 → m ≢ 8 →
             ReadsBeams words (seen_at told faults before after) (calm_at is_calm before) m
         read_all m six eight =
-            reads_quietly told is_calm faults words failed before after all m six eight (all_quiet r.whole)
+            reads_quietly told is_calm faults words failed before after all m six eight (all_quiet r.whole.0)
 
         by_kind : (stop ≡ None) ⊎ (stop ≡ Some SinkFault) → EndsAt stop
         by_kind (inl none) = subst EndsAt (sym none) (record {
@@ -581,8 +522,8 @@ module _ {I : Type 0} (told : I → Told) (is_calm : I → Type 0) (faults : I �
           };
           judged = judged_said words s 0 says (λ e. omega (arith, e));
           read = read_all 0 (λ e. omega (arith, e)) (λ e. omega (arith, e));
-          stopped = none_stopped words (told_at told before) 0 (λ e. omega (arith, e)) (λ e. omega (arith, e))
-              (λ e. omega (arith, e)) (λ e. omega (arith, e)) (λ e. omega (arith, e));
+          stopped = searched_at words (told_at told before) 0 (λ e. omega (arith, e)) (λ e. omega (arith, e))
+              (λ e. omega (arith, e)) (λ e. omega (arith, e)) (λ e. omega (arith, e)) are_searched;
           said = tt;
         })
           where
@@ -602,9 +543,9 @@ module _ {I : Type 0} (told : I → Told) (is_calm : I → Type 0) (faults : I �
           };
           judged = judged_said words s 10 says (λ e. omega (arith, e));
           read = read_all 10 (λ e. omega (arith, e)) (λ e. omega (arith, e));
-          stopped = none_stopped words (told_at told before) 10 (λ e. omega (arith, e)) (λ e. omega (arith, e))
-              (λ e. omega (arith, e)) (λ e. omega (arith, e)) (λ e. omega (arith, e));
-          said = (tt, λ t files said are. tt);
+          stopped = searched_at words (told_at told before) 10 (λ e. omega (arith, e)) (λ e. omega (arith, e))
+              (λ e. omega (arith, e)) (λ e. omega (arith, e)) (λ e. omega (arith, e)) are_searched;
+          said = (tt, λ t said. tt);
         })
           where
             front : (data_of_beams : List (List ℕ)) → BeamsHoldData o s.search data_of_beams ends →
@@ -613,50 +554,38 @@ module _ {I : Type 0} (told : I → Told) (is_calm : I → Type 0) (faults : I �
                 (searched_beams_text o s.search (within_in words) (more_in words) list)) fault (r.wrote list held)
 
     -- a failure of inputs comes first
-    pub fails_in_order : StopsFirst ends ReadFault → HaveBroken told s n before mid after ends →
+    pub fails_in_order : StopsBy stop_at_data ends ReadFault → HaveBroken told s n before mid after ends →
         FailsFirst words (seen_at told faults before after) (told_at told after)
     fails_in_order r broken = fails_first told is_calm faults words failed before after all r.beam
         (let there = r.there in let many = come.many in omega (arith, there, many, enough))
-        (did (get_or ends r.beam None) r.is) (λ k less. quiet_where k (r.earlier k less))
-        (for_settings words (told_at told before) once s says
-        (λ t files. ReadsHeadersTo t files r.beam (told_at told before) (told_at told after)
-        ⊎ ReadsDataTo t files r.beam (told_at told before) (told_at told after))
-        (λ files are. inr (record {
-          begins = (begins files are).0;
-          whole = λ k less.
-              let there = r.there in let many = come.many in
-              (whole_at files are k (omega (arith, less, there, many)) (r.earlier k less)).whole;
-          broke =
-              let there = r.there in let many = come.many in let lent = all.lent in
-              let below : r.beam < n = omega (arith, there, many) in
+        (slot_failing r.beam (get_or ends r.beam None) r.is) (λ k less. quiet_where k (r.earlier k less))
+        (for_said words (told_at told before) once s says
+        (λ t. ReadsHeadersTo t r.beam (told_at told before) (told_at told after)
+        ⊎ ReadsDataTo t r.beam (told_at told before) (told_at told after))
+        (inr (record {
+          begins = begins;
+          whole =
+              let within = stopped_there stop_at_data ReadFault r in
+              whole_to r.beam (omega (arith, within)) (λ k less. r.earlier k less);
+          broke = λ file at.
+              let lent = all.lent in
+              let below = stopped_there stop_at_data ReadFault r in
               let inside : r.beam < length before = omega (arith, below, enough) in
-              let x = element before r.beam inside in
+              let x = one_there told is_calm faults words once s says before enough r.beam below in
               let name = beam_name s r.beam in
-              let file = beam_file files r.beam in
               subst (λ t. IsReadOn s.max_bytes name file t (told_at told after r.beam))
               (sym (seen_there told nothing_told before r.beam x inside))
               (subst (λ t. IsReadOn s.max_bytes name file (told (get_or before r.beam x)) t)
               (sym (seen_there told nothing_told after r.beam x (omega (arith, inside, lent))))
               (left (told (get_or before r.beam x)) (told (get_or mid r.beam x)) name (told (get_or after r.beam x))
-              (get_or ends r.beam None) r.is (broken r.beam x below) file (told_mid files are r.beam x below)));
+              (get_or ends r.beam None) r.is (broken r.beam x below) file (told_mid r.beam below file at x)));
         })))
       where
-        fault_of : (e : FeedEnd) → stop_of_beam r.beam e ≡ Some ReadFault → e ≡ feed.ReadFault
-        fault_of (feed.Whole bytes) is = absurd cc
-        fault_of feed.ReadFault is = refl
-        fault_of (feed.BadHeader file cause) is = absurd cc
-        fault_of (feed.Gap file expected found) is = absurd cc
-        fault_of (feed.TooLong limit) is = absurd cc
-
-        did : (slot : Option BeamEnd) → slot_stop r.beam slot ≡ Some ReadFault → slot_failed slot
-        did None is = absurd cc
-        did (Some end) is = fault_of end.feed is
-
         left : (start was : Told) (name : List ℕ) (now : Told) (slot : Option BeamEnd) →
-            slot_stop r.beam slot ≡ Some ReadFault → SlotBreaks s.max_bytes start was name now slot →
+            slot_stop stop_at_data r.beam slot ≡ Some ReadFault → SlotBreaks s.max_bytes start was name now slot →
             (file : List ℕ) → was.bytes_under name ≡ Some file → IsReadOn s.max_bytes name file start now
         left start was name now None is broke file at = absurd cc
-        left start was name now (Some end) is broke file at = broke (fault_of end.feed is) file at
+        left start was name now (Some end) is broke file at = broke (stopped_failing r.beam end.feed is) file at
 
     pub through : (stop : Option Stop) →
         EndsBeams o s.search (within_in words) (more_in words) ends out out' stop → EndsAt stop

@@ -9,7 +9,7 @@ use Rattle.dada_model.specs.Observation.{Observation}
 use Rattle.search_model.specs.Plan.{plan_refusal}
 use Rattle.search_words.specs.Settings.{SettingsSeen}
 use Rattle.stream_model.specs.Walk.{data_of, walk_stop}
-use Rattle.disk_feeder.specs.declared.answers.FeedEnd.TheVariants.{Whole, ReadFault}
+use Rattle.disk_feeder.specs.declared.answers.FeedEnd.TheVariants.{Whole, ReadFault, TooLong}
 use Rattle.disk_feeder.specs.declared.feeder.FeederSpace.{FeederSpace}
 use Rattle.disk_feeder.specs.Ends.{end_of}
 use Rattle.disk_feeder.specs.Feeder.{HasOpenFile}
@@ -46,8 +46,8 @@ pub record CanRun {I : Type 0} (told : I → Told) (is_open : I → Type 0) (s :
 -- failed.
 
 -- A beam of this observation came to this end, over inputs that were before and are after: that of the walk of its
--- file, or a fault of these inputs. Where all data went through, its book is that of them, and it counted their
--- spectra.
+-- file, or a fault of these inputs. Where its data are too many, the limit is that of the settings. Where all went
+-- through, its book is that of them, and it counted their spectra.
 pub record HasCome {I : Type 0} (told : I → Told) (is_calm : I → Type 0) (faults : I → ℕ)
     (s : SettingsSeen) (o : Observation) (name : List ℕ) (before after : I) (end : BeamEnd) :
     Type 0 where
@@ -55,6 +55,7 @@ pub record HasCome {I : Type 0} (told : I → Told) (is_calm : I → Type 0) (fa
   pub serves : is_calm before → IsSome ((told before).bytes_under name) → end.feed ≢ ReadFault
   pub walked : end.feed ≢ ReadFault → OfFile (told before) name (λ file. (bytes : ℕ)
       × (end.feed ≡ end_of bytes s.max_bytes (walk_stop (stream_of_one s file))))
+  pub limit : (limit : ℕ) → end.feed ≡ TooLong limit → limit ≡ s.max_bytes
   pub bytes : List ℕ
   pub held : (n : ℕ) → end.feed ≡ Whole n → HoldsData o s.search bytes (Some end)
   pub known : (n : ℕ) → end.feed ≡ Whole n → OfFile (told before) name (λ file.

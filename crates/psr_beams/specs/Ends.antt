@@ -17,26 +17,35 @@ use Rattle.run_stop.specs.Runs.{IsStopOfWords}
 use Rattle.run_stop.specs.Outcomes.{JudgesWords}
 use Rattle.psr_beams.specs.Words.{searching_beams}
 use Rattle.psr_beams.specs.Seen.{told_in}
-use Rattle.psr_beams.specs.Files.{ForBeams}
-use Rattle.psr_beams.specs.Stops.{IsStopOfBeams}
+use Rattle.psr_beams.specs.Files.{ForSettings}
+use Rattle.psr_beams.specs.Stops.{SaysOfBeams}
 use Rattle.psr_beams.specs.Outcome.{ReadsBeams, StopsAtBeams, WritesBeams}
 
 -- ---- the ends of all beams
 
--- the stop of a beam whose feeder ended so, or none
-abbrev pub stop_of_beam : ℕ → FeedEnd → Option Stop
-stop_of_beam beam (feed.Whole bytes) = None
-stop_of_beam beam feed.ReadFault = Some ReadFault
-stop_of_beam beam (feed.BadHeader file cause) = Some (Header beam cause)
-stop_of_beam beam (feed.Gap file expected found) = Some (Gap beam expected found)
-stop_of_beam beam (feed.TooLong limit) = Some (TooLong limit)
+-- the stop of a beam that ended so at its data, or none
+abbrev pub stop_at_data : ℕ → FeedEnd → Option Stop
+stop_at_data beam (feed.Whole bytes) = None
+stop_at_data beam feed.ReadFault = Some ReadFault
+stop_at_data beam (feed.BadHeader file cause) = None
+stop_at_data beam (feed.Gap file expected found) = None
+stop_at_data beam (feed.TooLong limit) = Some (TooLong limit)
 
-abbrev pub slot_stop : ℕ → Option BeamEnd → Option Stop
-slot_stop beam None = None
-slot_stop beam (Some end) = stop_of_beam beam end.feed
+-- and of one that ended so at its header
+abbrev pub stop_at_header : ℕ → FeedEnd → Option Stop
+stop_at_header beam (feed.Whole bytes) = None
+stop_at_header beam feed.ReadFault = None
+stop_at_header beam (feed.BadHeader file cause) = Some (Header beam cause)
+stop_at_header beam (feed.Gap file expected found) = Some (Gap beam expected found)
+stop_at_header beam (feed.TooLong limit) = None
 
-abbrev pub stop_in : List (Option BeamEnd) → ℕ → Option Stop
-stop_in ends beam = slot_stop beam (slice_index_or ends beam None)
+-- that of the beam of a slot, by one of these
+abbrev pub slot_stop : (ℕ → FeedEnd → Option Stop) → ℕ → Option BeamEnd → Option Stop
+slot_stop stop_of beam None = None
+slot_stop stop_of beam (Some end) = stop_of beam end.feed
+
+abbrev pub stop_in : (ℕ → FeedEnd → Option Stop) → List (Option BeamEnd) → ℕ → Option Stop
+stop_in stop_of ends beam = slot_stop stop_of beam (slice_index_or ends beam None)
 
 -- how many candidates its book counts
 abbrev pub slot_count : Option BeamEnd → ℕ
@@ -46,15 +55,24 @@ slot_count (Some end) = end.book.count
 abbrev pub counted_in : List (Option BeamEnd) → ℕ → ℕ
 counted_in ends beam = slot_count (slice_index_or ends beam None)
 
--- the lowest beam that stopped has this stop
-pub record StopsFirst (ends : List (Option BeamEnd)) (stop : Stop) : Type 0 where
+-- the lowest beam that stopped so has this stop
+pub record StopsBy (stop_of : ℕ → FeedEnd → Option Stop) (ends : List (Option BeamEnd))
+    (stop : Stop) : Type 0 where
   pub beam : ℕ
   pub there : beam < length ends
-  pub is : stop_in ends beam ≡ Some stop
-  pub earlier : (k : ℕ) → k < beam → stop_in ends k ≡ None
+  pub is : stop_in stop_of ends beam ≡ Some stop
+  pub earlier : (k : ℕ) → k < beam → stop_in stop_of ends k ≡ None
+
+abbrev pub NoneStopsBy : (ℕ → FeedEnd → Option Stop) → List (Option BeamEnd) → Type 0
+NoneStopsBy stop_of ends = (beam : ℕ) → beam < length ends → stop_in stop_of ends beam ≡ None
+
+-- the lowest beam that stopped at its data has this stop; or none did, and the lowest that stopped at its header has it
+abbrev pub StopsFirst : List (Option BeamEnd) → Stop → Type 0
+StopsFirst ends stop = StopsBy stop_at_data ends stop
+    ⊎ (NoneStopsBy stop_at_data ends × StopsBy stop_at_header ends stop)
 
 abbrev pub NoneStops : List (Option BeamEnd) → Type 0
-NoneStops ends = (beam : ℕ) → beam < length ends → stop_in ends beam ≡ None
+NoneStops ends = NoneStopsBy stop_at_data ends × NoneStopsBy stop_at_header ends
 
 -- the lowest beam that counts more than the limit counts so many
 pub record CountsTooMany (ends : List (Option BeamEnd)) (limit : ℕ) (stop : Stop) : Type 0 where
@@ -99,7 +117,7 @@ EndsBeams o s within more ends before after stop =
 abbrev pub IsSaid : List (List ℕ) → (ℕ → Told) → Option Stop → Type 0
 IsSaid words told None = ⊤
 IsSaid words told (Some stop) = IsStopOfWords searching_beams words stop
-    × ForBeams words told (λ s files. IsStopOfBeams s files stop)
+    × ForSettings words (λ s. SaysOfBeams told s stop)
 
 -- all that the outcome says but for the notes
 pub record Ends (words : List (List ℕ)) (inputs : ℕ → InputsSeen) (is_calm : ℕ → Type 0)

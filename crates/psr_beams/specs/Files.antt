@@ -2,7 +2,7 @@
 -- Source: PSRDADA manual (a transfer is what one header describes); that beams of one observation have the same values
 -- is this project's choice.
 use Rattle.std.specs.Prelude.{◌≡◌, ℕ, ◌-◌, ◌<◌, ◌≤◌, List, [], ◌∷◌, length, slice_index_or, Some}
-use Rattle.psr_base.specs.Told.{Told, opened, moved_by}
+use Rattle.psr_base.specs.Told.{Told, OfFile, opened, moved_by}
 use Rattle.dada_model.specs.Observation.{Observation}
 use Rattle.search_words.specs.Settings.{SettingsSeen}
 use Rattle.stream_model.specs.Walk.{FileStream, data_of, observation_at}
@@ -53,6 +53,14 @@ pub record IsReadOn (limit : ℕ) (name file : List ℕ) (before after : Told) :
   pub is : after ≡ moved_by place (opened name before)
 
 -- ---- the files that are told
+
+-- P holds of the settings that the words say
+abbrev pub ForSettings : List (List ℕ) → (SettingsSeen → Type 0) → Type 0
+ForSettings words P = (s : SettingsSeen) → SayBeams words s → P s
+
+-- P holds of the file of a beam, where its bytes are told; of those of other beams nothing is said
+abbrev pub OfBeam : (ℕ → Told) → SettingsSeen → ℕ → (List ℕ → Type 0) → Type 0
+OfBeam told s beam P = OfFile (told beam) (beam_name s beam) P
 
 -- P holds of the settings that the words say, and of the files of their beams, where the bytes of all are told
 abbrev pub ForBeams : List (List ℕ) → (ℕ → Told) → (SettingsSeen → List (List ℕ) → Type 0) → Type 0

@@ -2,6 +2,7 @@ pub mod Words
 pub mod Seen
 pub mod Files
 pub mod Refusals
+pub mod EachBeam
 pub mod Found
 pub mod Stops
 pub mod Outcome

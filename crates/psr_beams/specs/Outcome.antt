@@ -9,16 +9,16 @@ use Rattle.disk_feeder.specs.declared.answers.HeaderCause.{HeaderCause}
 use Rattle.disk_feeder.specs.Front.{BreaksAt}
 use Rattle.run_stop.specs.declared.causes.PlanCause.{PlanCause}
 use Rattle.run_stop.specs.declared.stop.Stop.{Stop}
-use Rattle.run_stop.specs.declared.stop.Stop.TheVariants.{Header, Gap, TooLong}
+use Rattle.run_stop.specs.declared.stop.Stop.TheVariants.{Header, Gap}
 use Rattle.run_stop.specs.Texts.{status_of, note_of}
 use Rattle.run_stop.specs.Runs.{IsStopOfWords}
 use Rattle.run_stop.specs.Outcomes.{JudgesWords}
 use Rattle.psr_beams.specs.Words.{searching_beams, SayBeams}
 use Rattle.psr_beams.specs.Seen.{told_in}
-use Rattle.psr_beams.specs.Files.{ForBeams, AreBeamsTold, beam_file, beam_name, header_read, IsReadOn}
-use Rattle.psr_beams.specs.Refusals.{HaveHeaders, RefusesLater, RefusesSearch, CanSearch}
-use Rattle.psr_beams.specs.Found.{IsWhole, StopsBeam, HasTooMany, AreSearched, HaveText}
-use Rattle.psr_beams.specs.Stops.{IsStopOfBeams}
+use Rattle.psr_beams.specs.Files.{ForSettings, OfBeam, ForBeams, AreBeamsTold, beam_name, header_read, IsReadOn}
+use Rattle.psr_beams.specs.EachBeam.{HaveHeadersAt, RefusesLaterAt, CanSearchAt, RefusesSearchAt, AreWholeAt, StopsBeamAt, HasTooManyAt, AreSearchedAt}
+use Rattle.psr_beams.specs.Found.{AreSearched, HaveText}
+use Rattle.psr_beams.specs.Stops.{SaysOfBeams}
 
 -- ---- the inputs
 
@@ -27,7 +27,7 @@ abbrev pub HoldsName : Told → SettingsSeen → ℕ → Type 0
 HoldsName told s beam = IsSome (told.bytes_under (beam_name s beam))
 
 -- The inputs of this beam failed, and those of the beams before it didn't: it is one of the words, and its inputs are
--- not calm ones that hold its file.
+-- not calm ones that hold its file. The beams before it have headers.
 pub record FailsBeam (words : List (List ℕ)) (inputs : ℕ → InputsSeen) (is_calm : ℕ → Type 0) :
     Type 0 where
   pub beam : ℕ
@@ -36,84 +36,81 @@ pub record FailsBeam (words : List (List ℕ)) (inputs : ℕ → InputsSeen) (is
   pub uncalm : is_calm beam → (s : SettingsSeen) → SayBeams words s →
       ¬ HoldsName (inputs beam).told s beam
   pub earlier : (k : ℕ) → k < beam → (inputs k).faults_after ≡ (inputs k).faults_before
+  pub texts : ForSettings words (λ s. HaveHeadersAt (told_in inputs) s beam)
 
 -- no call of the inputs of a beam failed
 abbrev pub AreQuiet : (ℕ → InputsSeen) → Type 0
 AreQuiet inputs = (beam : ℕ) → (inputs beam).faults_after ≡ (inputs beam).faults_before
 
 -- the lowest beam that stops has too many data: no call of its inputs failed, nor of those of the beams before it
-pub record IsTooLong (s : SettingsSeen) (files : List (List ℕ)) (inputs : ℕ → InputsSeen) :
-    Type 0 where
-  pub limit : ℕ
-  pub long : StopsBeam s files (TooLong limit)
+pub record IsTooLong (s : SettingsSeen) (inputs : ℕ → InputsSeen) : Type 0 where
+  pub long : StopsBeamAt (told_in inputs) s s.max_bytes
   pub quiet : (k : ℕ) → k ≤ long.beam → (inputs k).faults_after ≡ (inputs k).faults_before
 
 -- 6 only where the inputs of a beam failed. At 8 those of beams after the one that stopped may have, and at no other
--- status any did; at 3, 7 and 8 that is said of files that are told.
+-- status any did.
 pub record ReadsBeams (words : List (List ℕ)) (inputs : ℕ → InputsSeen) (is_calm : ℕ → Type 0)
     (status : ℕ) : Type 0 where
   pub failed : status ≡ 6 → FailsBeam words inputs is_calm
-  pub quiet : Contains (0 ∷ 2 ∷ 4 ∷ 5 ∷ 9 ∷ 10 ∷ []) status → AreQuiet inputs
-  pub told_quiet : Contains (3 ∷ 7 ∷ []) status → ForBeams words (told_in inputs) (λ s files.
-      AreQuiet inputs)
-  pub lowest : status ≡ 8 → ForBeams words (told_in inputs) (λ s files. IsTooLong s files inputs)
+  pub quiet : status ≢ 6 → status ≢ 8 → AreQuiet inputs
+  pub lowest : status ≡ 8 → ForSettings words (λ s. IsTooLong s inputs)
   pub count : (beam : ℕ) → (inputs beam).faults_before ≤ (inputs beam).faults_after
 
--- the header of the file of a beam was read, and no byte past it
-abbrev pub IsHeaderRead : SettingsSeen → List (List ℕ) → ℕ → (ℕ → Told) → (ℕ → Told) → Type 0
-IsHeaderRead s files beam before after =
-    after beam ≡ header_read (beam_name s beam) (beam_file files beam) (before beam)
+-- the header of this file of a beam was read, and no byte past it
+abbrev pub IsHeaderRead : SettingsSeen → ℕ → (ℕ → Told) → (ℕ → Told) → List ℕ → Type 0
+IsHeaderRead s beam before after file =
+    after beam ≡ header_read (beam_name s beam) file (before beam)
 
 -- of each beam, no file was opened, or its header was read, and no byte past it
 abbrev pub ReadsNoData : List (List ℕ) → (ℕ → Told) → (ℕ → Told) → Type 0
 ReadsNoData words before after = (beam : ℕ) → (after beam ≡ before beam)
-    ⊎ ForBeams words before (λ s files. IsHeaderRead s files beam before after)
+    ⊎ ForSettings words (λ s. OfBeam before s beam (IsHeaderRead s beam before after))
 
--- Only headers were read: those of the beams before this one, whose files have headers, and of this one less than
--- judges its header; the inputs of the beams after it stand.
-pub record ReadsHeadersTo (s : SettingsSeen) (files : List (List ℕ)) (beam : ℕ)
-    (before after : ℕ → Told) : Type 0 where
-  pub headers : HaveHeaders files beam
-  pub read : (k : ℕ) → k < beam → IsHeaderRead s files k before after
-  pub broke : BreaksAt (beam_name s beam) (beam_file files beam) (before beam) (after beam)
+-- Only headers were read: those of the beams before this one, which have headers, and of this one less than judges its
+-- header; the inputs of the beams after it stand.
+pub record ReadsHeadersTo (s : SettingsSeen) (beam : ℕ) (before after : ℕ → Told) : Type 0 where
+  pub headers : HaveHeadersAt before s beam
+  pub read : (k : ℕ) → k < beam → OfBeam before s k (IsHeaderRead s k before after)
+  pub broke : OfBeam before s beam (λ file.
+      BreaksAt (beam_name s beam) file (before beam) (after beam))
   pub others : (k : ℕ) → beam < k → after k ≡ before k
 
 -- All headers and the search are accepted, and the data of the beams before this one are read whole; of its own file
 -- its header was read, and maybe more, no more data than the limit, and its end was not seen.
-pub record ReadsDataTo (s : SettingsSeen) (files : List (List ℕ)) (beam : ℕ)
-    (before after : ℕ → Told) : Type 0 where
-  pub begins : CanSearch s files
-  pub whole : (k : ℕ) → k < beam → IsWhole s files k
-  pub broke : IsReadOn s.max_bytes (beam_name s beam) (beam_file files beam) (before beam)
-      (after beam)
+pub record ReadsDataTo (s : SettingsSeen) (beam : ℕ) (before after : ℕ → Told) : Type 0 where
+  pub begins : CanSearchAt before s
+  pub whole : AreWholeAt before s beam
+  pub broke : OfBeam before s beam (λ file.
+      IsReadOn s.max_bytes (beam_name s beam) file (before beam) (after beam))
 
 -- The inputs of this beam failed, and those of the beams before it didn't. Nothing came before that: only headers were
--- read to there; or all are accepted, and data were.
+-- read to there; or all are accepted, and data were. Each is said of the beams whose files are told.
 pub record FailsFirst (words : List (List ℕ)) (inputs : ℕ → InputsSeen) (after : ℕ → Told) :
     Type 0 where
   pub beam : ℕ
   pub rose : Rose (inputs beam).faults_before (inputs beam).faults_after
   pub earlier : (k : ℕ) → k < beam → (inputs k).faults_after ≡ (inputs k).faults_before
-  pub first : ForBeams words (told_in inputs) (λ s files.
-      ReadsHeadersTo s files beam (told_in inputs) after
-      ⊎ ReadsDataTo s files beam (told_in inputs) after)
+  pub first : ForSettings words (λ s. ReadsHeadersTo s beam (told_in inputs) after
+      ⊎ ReadsDataTo s beam (told_in inputs) after)
 
 -- ---- the files
 
 -- 3 only where the header of a beam is refused, and 7 only where a later one has another OBS_OFFSET than beam 0; 4 only
--- where the search is refused, and 8 only where the data of a beam are too many
+-- where the search is refused, and 8 only where the data of a beam are too many. Each is said of every beam whose file
+-- is told.
 pub record StopsAtBeams (words : List (List ℕ)) (told : ℕ → Told) (status : ℕ) : Type 0 where
-  pub header : status ≡ 3 → ForBeams words told (λ s files. (beam : ℕ) × (cause : HeaderCause)
-      × IsStopOfBeams s files (Header beam cause))
-  pub plan : status ≡ 4 → ForBeams words told (λ s files. (cause : PlanCause)
-      × RefusesSearch s files cause)
-  pub offset : status ≡ 7 → ForBeams words told (λ s files. (beam : ℕ) × (expected : ℕ)
-      × (found : ℕ) × RefusesLater files (Gap beam expected found))
-  pub too_long : status ≡ 8 → ForBeams words told (λ s files.
-      StopsBeam s files (TooLong s.max_bytes))
+  pub header : status ≡ 3 → ForSettings words (λ s. (beam : ℕ) × (cause : HeaderCause)
+      × SaysOfBeams told s (Header beam cause))
+  pub plan : status ≡ 4 → ForSettings words (λ s. (cause : PlanCause)
+      × RefusesSearchAt told s cause)
+  pub offset : status ≡ 7 → ForSettings words (λ s. (beam : ℕ) × (expected : ℕ)
+      × (found : ℕ) × RefusesLaterAt told s beam (Gap beam expected found))
+  pub too_long : status ≡ 8 → ForSettings words (λ s. StopsBeamAt told s s.max_bytes)
   -- 9 exactly where some list has more candidates than there may be
-  pub too_many : status ≡ 9 → ForBeams words told (λ s files. (count : ℕ) × (limit : ℕ)
-      × HasTooMany s files count limit)
+  pub too_many : status ≡ 9 → ForSettings words (λ s. (count : ℕ) × (limit : ℕ)
+      × HasTooManyAt told s count limit)
+  -- and 0 and 10 only where nothing of this is so
+  pub searched : (status ≡ 0) ⊎ (status ≡ 10) → ForSettings words (λ s. AreSearchedAt told s)
 
 -- ---- the output
 
@@ -138,7 +135,7 @@ pub record NotesBeams (words : List (List ℕ)) (told : ℕ → Told) (before af
   pub stop : Stop
   pub answered : status ≡ status_of stop
   pub words_cause : IsStopOfWords searching_beams words stop
-  pub cause : ForBeams words told (λ s files. IsStopOfBeams s files stop)
+  pub cause : ForSettings words (λ s. SaysOfBeams told s stop)
   pub line : Noted (note_of stop) before after
 
 -- nothing at 0, and one line at each other status

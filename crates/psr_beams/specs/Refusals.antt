@@ -52,11 +52,17 @@ unfoldable pub later_stop : ℕ → Observation → HeaderText → Option Stop
 later_stop beam o header =
     stop_of_offset beam o.obs_offset (later_offset_of (profile_of o) (fields_of header.text))
 
--- a later beam has a header with this stop, or with none
-pub record StopsLater (files : List (List ℕ)) (beam : ℕ) (stop : Option Stop) : Type 0 where
+-- by beam 0's observation, a file has a header with this stop for a later beam, or with none
+pub record StopsByHeader (o : Observation) (beam : ℕ) (stop : Option Stop) (file : List ℕ) :
+    Type 0 where
   pub header : HeaderText
-  pub has : header_of (beam_file files beam) ≡ Ok header
-  pub stops : later_stop beam (beams_observation files) header ≡ stop
+  pub has : header_of file ≡ Ok header
+  pub stops : later_stop beam o header ≡ stop
+
+-- so has the file of this beam
+abbrev pub StopsLater : List (List ℕ) → ℕ → Option Stop → Type 0
+StopsLater files beam stop =
+    StopsByHeader (beams_observation files) beam stop (beam_file files beam)
 
 -- all files have headers, and that of beam 0 says an observation; this later beam is the first that stops at its header
 pub record RefusesLater (files : List (List ℕ)) (stop : Stop) : Type 0 where

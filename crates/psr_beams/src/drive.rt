@@ -33,8 +33,9 @@ fn run_joined<I: Inputs + Send, G: Gate + Sync, R: Threads + Wait + Sync>(
     inputs: &mut [I],
     gate: &G,
 ) -> ArrayVec<Option<BeamEnd>, MOST_BEAMS>
-    requires { (s : SettingsSeen) × (count : ℕ) × CanRun I.told I.is_open s observation.now count
-        inputs.old spaces.items feeders.items }
+    requires turns { 1 ≤ turns }
+    requires can { (s : SettingsSeen) × (count : ℕ) × CanRun I.told I.is_open s observation.now
+        count inputs.old spaces.items feeders.items }
     ensures come { (s : SettingsSeen) (count : ℕ) → CanRun I.told I.is_open s observation.now count
         inputs.old spaces.items feeders.entry.items
         → HaveCome I.told I.is_calm I.faults s observation.now count inputs.old inputs.new

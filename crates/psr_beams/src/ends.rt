@@ -2,7 +2,7 @@
 ghost use Rattle.std.specs.Prelude.{◌≡◌, ◌≤◌, ℕ, List, length, None, IfSome};
 ghost use Rattle.search_model.specs.Search.{SettingsInRange};
 ghost use Rattle.beam_set.specs.Laws.{BeamsHoldData};
-ghost use Rattle.psr_beams.specs.Ends.{stop_of_beam, slot_stop as slot_stop_of, slot_count as slot_count_of, StopsFirst, NoneStops, CountsTooMany, NoneCountsTooMany, EndsWritten, EndsBeams};
+ghost use Rattle.psr_beams.specs.Ends.{stop_at_data, stop_at_header, slot_stop, slot_count as slot_count_of, StopsBy, NoneStopsBy, StopsFirst, NoneStops, CountsTooMany, NoneCountsTooMany, EndsWritten, EndsBeams};
 
 use beam_set::{BeamEnd, write_beams};
 use disk_feeder::FeedEnd;
@@ -13,13 +13,23 @@ use search_model::Search;
 // A law: it does nothing when it runs, and the proofs use what it ensures.
 use beam_set::searched_beams_are_found;
 
-// The stop of a beam whose feeder ended so, or none.
-fn beam_stop(beam: u32, end: FeedEnd) -> Option<Stop>
-    ensures { result ≡ stop_of_beam beam end }
+// The stop of a beam whose feeder ended so at its data, or none.
+fn data_stop(beam: u32, end: FeedEnd) -> Option<Stop>
+    ensures { result ≡ stop_at_data beam end }
 {
     match end {
-        FeedEnd::Whole { .. } => None,
         FeedEnd::ReadFault => Some(Stop::ReadFault),
+        FeedEnd::TooLong { limit } => Some(Stop::TooLong { limit }),
+        _ => None,
+    }
+}
+
+// The stop of a beam whose feeder ended so at its header, or none. All headers are judged before data are read, so none
+// ends so; no clause of a feeder says it.
+fn header_stop(beam: u32, end: FeedEnd) -> Option<Stop>
+    ensures { result ≡ stop_at_header beam end }
+{
+    match end {
         FeedEnd::BadHeader { file: _, cause } => Some(Stop::Header { file: beam, cause }),
         FeedEnd::Gap {
             file: _,
@@ -30,16 +40,26 @@ fn beam_stop(beam: u32, end: FeedEnd) -> Option<Stop>
             expected,
             found,
         }),
-        FeedEnd::TooLong { limit } => Some(Stop::TooLong { limit }),
+        _ => None,
     }
 }
 
-// The stop of the beam of a slot, or none.
-fn slot_stop(beam: u32, slot: &Option<BeamEnd>) -> Option<Stop>
-    ensures { result ≡ slot_stop_of beam slot.now }
+// The stop at its data of the beam of a slot, or none.
+fn slot_data_stop(beam: u32, slot: &Option<BeamEnd>) -> Option<Stop>
+    ensures { result ≡ slot_stop stop_at_data beam slot.now }
 {
     match slot {
-        Some(end) => beam_stop(beam, end.feed),
+        Some(end) => data_stop(beam, end.feed),
+        None => None,
+    }
+}
+
+// The stop at its header of the beam of a slot, or none.
+fn slot_header_stop(beam: u32, slot: &Option<BeamEnd>) -> Option<Stop>
+    ensures { result ≡ slot_stop stop_at_header beam slot.now }
+{
+    match slot {
+        Some(end) => header_stop(beam, end.feed),
         None => None,
     }
 }
@@ -54,18 +74,44 @@ fn slot_count(slot: &Option<BeamEnd>) -> u64
     }
 }
 
-// The stop of the lowest beam that stopped, or none.
+// The stop of the lowest beam that stopped at its data, or none.
+fn first_data_stop(ends: &[Option<BeamEnd>]) -> Option<Stop>
+    requires { length ends.now ≤ 7 }
+    ensures none { result ≡ None → NoneStopsBy stop_at_data ends.now }
+    ensures first { IfSome result (StopsBy stop_at_data ends.now) }
+{
+    for beam in 0..ends.len() {
+        if let Some(stop) = slot_data_stop(beam as u32, &ends[beam]) {
+            return Some(stop);
+        }
+    }
+    None
+}
+
+// The stop of the lowest beam that stopped at its header, or none.
+fn first_header_stop(ends: &[Option<BeamEnd>]) -> Option<Stop>
+    requires { length ends.now ≤ 7 }
+    ensures none { result ≡ None → NoneStopsBy stop_at_header ends.now }
+    ensures first { IfSome result (StopsBy stop_at_header ends.now) }
+{
+    for beam in 0..ends.len() {
+        if let Some(stop) = slot_header_stop(beam as u32, &ends[beam]) {
+            return Some(stop);
+        }
+    }
+    None
+}
+
+// The stop of the lowest beam that stopped at its data, or of the lowest that stopped at its header, or none.
 fn first_stop(ends: &[Option<BeamEnd>]) -> Option<Stop>
     requires { length ends.now ≤ 7 }
     ensures none { result ≡ None → NoneStops ends.now }
     ensures first { IfSome result (StopsFirst ends.now) }
 {
-    for beam in 0..ends.len() {
-        if let Some(stop) = slot_stop(beam as u32, &ends[beam]) {
-            return Some(stop);
-        }
+    if let Some(stop) = first_data_stop(ends) {
+        return Some(stop);
     }
-    None
+    first_header_stop(ends)
 }
 
 // The stop at the lowest beam that has more candidates than there may be, or none.

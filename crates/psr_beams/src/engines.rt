@@ -13,7 +13,7 @@ use search_model::Search;
 use std::alloc::Global;
 use std::thread::{Threads, for_each_mut};
 
-// The engine of all delays of a search that fits, or none where there was no memory.
+// The engine of all delays of a search that fits; `None` if there was no memory.
 fn open_engine(alloc: Global, observation: &Observation, search: &Search) -> Option<Engine>
     requires range { SettingsInRange search.now }
     requires fits { plan_refusal observation.now search.now ≡ None }
@@ -27,7 +27,7 @@ fn open_engine(alloc: Global, observation: &Observation, search: &Search) -> Opt
     }
 }
 
-// So many slots.
+// `beams` empty slots.
 fn no_engines(beams: usize) -> ArrayVec<Option<Engine>, MOST_BEAMS>
     requires { beams ≤ 7 }
     ensures { length result.items ≡ beams }
@@ -51,7 +51,7 @@ fn are_opened(slots: &[Option<Engine>]) -> bool
     true
 }
 
-// Opens an engine in each slot, where there is memory, beside each other.
+// Opens an engine in each slot, if there is memory, at the same time in `threads` threads at most.
 fn fill_engines<R: Threads + Sync>(
     rt: &R,
     alloc: Global,
@@ -79,7 +79,7 @@ fn fill_engines<R: Threads + Sync>(
     );
 }
 
-/// Takes the memory for a search that fits: an engine of all delays for each beam, all opened beside each other.
+/// Takes the memory for a search that fits: an engine of all delays for each beam, all opened at the same time.
 pub(crate) fn open_engines<R: Threads + Sync>(
     rt: &R,
     alloc: Global,

@@ -60,8 +60,8 @@ fn begin_beam<'a, I: Inputs>(
     }
 }
 
-/// Takes the spaces of the feeders of all beams, and reads the header of each file, in the order of the beams, or the
-/// first that cannot be read. Each beam reads from the inputs at its place; others stand.
+/// Takes the spaces of the feeders of all beams, and reads the header of each file, in the order of the beams; at `Err`
+/// the first that can't be read. Each beam reads from the inputs at its place; others are not touched.
 pub(crate) fn begin_all<'a, I: Inputs>(
     alloc: Global,
     settings: &'a Settings,

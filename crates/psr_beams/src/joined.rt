@@ -25,7 +25,7 @@ fn join_beam<'a>(
     space.beam(feeder)
 }
 
-// The same of the slots of a beam.
+// The beam of a slot with a space and of a slot with a feeder, which accepts the observation.
 fn join_slots<'a>(
     space: Option<BeamSpace>,
     feeder: Option<FeederSpace<'a>>,

@@ -12,7 +12,7 @@ use obs_plan::{Observation, Profile};
 use run_stop::Stop;
 use std::alloc::Global;
 
-// The stop of a later beam at its header, where the OBS_OFFSET `expected` is expected, or none.
+// The stop of a later beam at its header, whose OBS_OFFSET has to be `expected`, or none.
 fn offset_stop(beam: u32, profile: &Profile, expected: u64, header: &Header) -> Option<Stop>
     ensures { result ≡ stop_of_offset beam expected
         (later_offset_of profile.now (fields_of header.now.text)) }
@@ -31,7 +31,7 @@ fn offset_stop(beam: u32, profile: &Profile, expected: u64, header: &Header) -> 
     }
 }
 
-// The same for the observation of beam 0.
+// The stop of a later beam at its header, which has to have the observation of beam 0, or none.
 #[tactic(auto, unfolding(crate::specs::Refusals::later_stop))]
 fn later_stop(beam: u32, observation: &Observation, header: &Header) -> Option<Stop>
     ensures { result ≡ later_stop_of beam observation.now header.now }
@@ -88,7 +88,7 @@ fn judge_later(observation: &Observation, slots: &[Option<FeederSpace<'_>>]) -> 
 }
 
 /// The observation of all beams, whose headers are judged in their order: that of beam 0 by its fields, a later one as
-/// the header of a later file of beam 0's observation that begins with the same byte.
+/// the header of a later file of beam 0's observation that begins with the byte with which beam 0 begins.
 pub(crate) fn judge(alloc: Global, slots: &[Option<FeederSpace<'_>>]) -> Result<Observation, Stop>
     requires some { 0 < length slots.now }
     requires few { length slots.now ≤ 7 }

@@ -3,8 +3,9 @@
 ghost use Rattle.std.specs.Prelude.{List};
 ghost use Rattle.psr_beams.specs.Seen.{calm_at};
 ghost use Rattle.psr_beams.specs.Outcome.{AcceptedIsSearched};
-ghost use Rattle.psr_beams.specs.Causes.{CausesAreAnswered, ToldRoomIsEnough};
-ghost use Rattle.psr_beams.specs.Sample.{SampleIsFound};
+ghost use Rattle.psr_beams.specs.Causes.{CausesAreAnswered, ShortBeamsAreAnswered, ToldRoomIsEnough};
+ghost use Rattle.psr_beams.specs.Stops.{ToldStopsAreOfFiles};
+ghost use Rattle.psr_beams.specs.Sample.{SampleIsFound, SampleIsRefused};
 
 use psr_base::Inputs;
 
@@ -21,6 +22,18 @@ pub fn causes_are_answered<I: Inputs>()
     ensures { (inputs : List I) → CausesAreAnswered (calm_at I.is_calm inputs) }
 {}
 
+/// A file that has no header is refused by 3 and a line that names its beam, whatever the files of the beams after it
+/// are, also if they are missing; or there is no memory. The files up to it are told, and their inputs are calm or count
+/// no fault.
+pub fn short_beams_are_answered<I: Inputs>()
+    ensures { (inputs : List I) → ShortBeamsAreAnswered (calm_at I.is_calm inputs) }
+{}
+
+/// Where the files of all beams are told, what a stop says of each beam's file by itself it says of all of them.
+pub fn told_stops_are_of_files()
+    ensures { ToldStopsAreOfFiles }
+{}
+
 /// Where the files of all beams are told, 10 never comes over an output that told enough room for the text.
 pub fn told_room_is_enough<I: Inputs>()
     ensures { (inputs : List I) → ToldRoomIsEnough (calm_at I.is_calm inputs) }
@@ -29,4 +42,10 @@ pub fn told_room_is_enough<I: Inputs>()
 /// The sample of this crate is found: a search of it that ends with status 0 has written its lines.
 pub fn sample_is_found<I: Inputs>()
     ensures { (inputs : List I) → SampleIsFound (calm_at I.is_calm inputs) }
+{}
+
+/// The sample in which beam 1 has 4095 bytes is refused by 3 and the line that says so, whatever is told of beam 2; or
+/// there is no memory.
+pub fn sample_is_refused<I: Inputs>()
+    ensures { (inputs : List I) → SampleIsRefused (calm_at I.is_calm inputs) }
 {}

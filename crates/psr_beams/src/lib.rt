@@ -13,5 +13,8 @@ mod opened;
 mod top;
 mod words;
 
-pub use laws::{accepted_is_searched, causes_are_answered, sample_is_found, told_room_is_enough};
+pub use laws::{
+    accepted_is_searched, causes_are_answered, sample_is_found, sample_is_refused,
+    short_beams_are_answered, told_room_is_enough, told_stops_are_of_files,
+};
 pub use top::run_beams;

@@ -21,7 +21,7 @@ use search_words::Settings;
 use std::alloc::Global;
 use std::thread::Threads;
 
-/// The observation of all beams, and a space for each: all memory of a search but that of the feeders.
+/// The observation of all beams, and a space for each: all memory of a search except that of the feeders.
 pub(crate) struct OpenedBeams {
     pub(crate) observation: Observation,
     pub(crate) spaces: ArrayVec<Option<BeamSpace>, MOST_BEAMS>,
@@ -39,7 +39,7 @@ fn take_engine(engines: &mut ArrayVec<Option<Engine>, MOST_BEAMS>) -> Engine
     engine
 }
 
-// The space of a beam with this engine, under the header that its feeder has read.
+// The space of a beam with this engine, for the header that its feeder has read.
 fn take_space(
     alloc: Global,
     settings: &Settings,
@@ -104,7 +104,7 @@ fn take_all<R: Threads + Sync>(
     take_spaces(alloc, settings, engines, slots)
 }
 
-/// Judges the headers of all beams and then the search, and takes all memory of a search but that of the feeders.
+/// Judges the headers of all beams and then the search, and takes all memory of a search except that of the feeders.
 pub(crate) fn open_all<R: Threads + Sync>(
     rt: &R,
     alloc: Global,

@@ -21,11 +21,12 @@ use dada_model::accepted_by_rows;
 use run_stop::{end_at_words, words_say_once};
 use stream_model::first_files_continue;
 
-/// Searches the files that the words name, 2 to 7, each as a beam of one observation, and writes the text of all beams
-/// to `out`. The first word is the program's name; the second says by how many spectra the ends of pulses that are near
-/// each other differ at most, 0 to 65536, and the third in how many beams a pulse may be that is not marked, 1 to 6.
-/// Beam b reads from `inputs[b]`, of which there are seven. The gate knows a beam by its number. It answers the exit
-/// status; where that isn't 0, a line to `notes` says why. A fault of `notes` changes nothing. It may not end.
+/// Searches the files that the arguments name, 2 to 7, each as a beam of one observation, and writes the text of all
+/// beams to `out`. `words` are the program's name and its arguments. The first argument is the largest difference, in
+/// spectra, between the ends of pulses that are near each other, 0 to 65536; the second is the largest number of beams
+/// of a pulse that is not marked, 1 to 6. Beam b reads from `inputs[b]`, of which there are seven. The gate is called
+/// with a beam's number. Answers the exit status; if it isn't 0, a line to `notes` says why. A fault of `notes` changes
+/// nothing. It may not end.
 pub fn run_beams<I: Inputs + Send, K: Sink, E: Sink, G: Gate + Sync, R: Threads + Wait + Sync>(
     rt: &R,
     alloc: Global,
@@ -51,7 +52,7 @@ pub fn run_beams<I: Inputs + Send, K: Sink, E: Sink, G: Gate + Sync, R: Threads 
     tell(stop, notes)
 }
 
-// The same without the notes.
+// Searches as `run_beams` does, without the notes.
 fn search<I: Inputs + Send, K: Sink, G: Gate + Sync, R: Threads + Wait + Sync>(
     rt: &R,
     alloc: Global,

@@ -1,4 +1,4 @@
-// The words of a search of several beams.
+// The arguments of a search of several beams.
 ghost use Rattle.std.specs.Prelude.{◌≡◌, ◌≤◌, Some, map, string_bytes, length, IfOk, IfErr};
 ghost use Rattle.search_words.specs.Settings.{AllInRange, settings_seen};
 ghost use Rattle.run_stop.specs.Lone.{ExplainsAlone};
@@ -9,8 +9,8 @@ use lone_run::settings_after;
 use search_words::{Settings, WordFault};
 use std::alloc::Global;
 
-/// What the words say: the settings of a search, whose names are the beams; by how many spectra the ends of pulses that
-/// are near each other differ at most; and in how many beams a pulse may be that is not marked.
+/// What the arguments give: the settings of a search, whose names are the beams; the largest difference, in spectra,
+/// between the ends of pulses that are near each other; and the largest number of beams of a pulse that is not marked.
 #[derive(Drop)]
 pub(crate) struct BeamWords {
     pub(crate) settings: Settings,
@@ -18,7 +18,7 @@ pub(crate) struct BeamWords {
     pub(crate) more: u32,
 }
 
-// The number that a word of 1 to 5 digits says, where it is one of these.
+// The number that a text of 1 to 5 digits gives, if it lies from `least` to `most`.
 fn number(word: &str, least: u32, most: u32) -> Option<u32>
     requires { most ≤ 65536 }
     ensures { result ≡ number_between least most word.now }
@@ -31,7 +31,7 @@ fn number(word: &str, least: u32, most: u32) -> Option<u32>
     }
 }
 
-// The same of a word by its place.
+// The number that the word at `place` gives, if it lies from `least` to `most`.
 fn number_at(words: &[String], place: usize, least: u32, most: u32) -> Option<u32>
     requires { most ≤ 65536 }
     ensures { result ≡ number_between least most (word_at (map string_bytes words.now) place) }
@@ -43,14 +43,14 @@ fn number_at(words: &[String], place: usize, least: u32, most: u32) -> Option<u3
     }
 }
 
-// Whether there may be so many beams.
+// Whether a search can have this number of beams.
 fn is_beam_count(settings: &Settings) -> bool
     ensures { result ≡ is_beam_count_of (length (settings_seen settings.now).names) }
 {
     2 <= settings.run.names.len() && settings.run.names.len() <= 7
 }
 
-/// What the words say, or why they say nothing.
+/// What the arguments give, or why they are refused.
 pub(crate) fn read_words(alloc: Global, words: &[String]) -> Result<BeamWords, WordFault>
     ensures says { IfOk result (λ r.
         SayBeams (map string_bytes words.now) (settings_seen r.settings)) }

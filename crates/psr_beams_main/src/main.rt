@@ -1,4 +1,5 @@
-//! `psr_beams`: searches several beams of one observation beside each other, and marks the pulses that too many have.
+//! `psr_beams`: searches several beams of one observation at the same time, and marks the pulses that too many of them
+//! have.
 #![tactic(auto)]
 
 use psr_base::{RealInputs, RealSink, TakenStreams};

@@ -1,4 +1,4 @@
-use Rattle.std.proofs.Common.{◌+◌}
+use Rattle.std.proofs.Common.{◌+◌, arith}
 use Rattle.beam_set.specs.Sets.{SlotOn, SlotMoved}
 use Rattle.beam_set.proofs.Pairing.{moved_none, moved_more}
 use Rattle.beam_set.proofs.Turned.{slot_none, slot_more}
@@ -6,11 +6,14 @@ use Rattle.beam_set.proofs.set.run_rounds.Goals as goal
 
 pub loop-round-init : goal.loop-round-init
 loop-round-init g c =
+    let least = c.requires.turns in
+    let more = c.first_round-now.ensures in
     let told = g.I.Inputs.told in
     let is_open = g.I.Inputs.is_open in
     let is_calm = g.I.Inputs.is_calm in
     let faults = g.I.Inputs.faults in
     record {
+      some = omega (arith, least, more);
       on = c.requires.on;
       moved = (
         0,
@@ -30,6 +33,7 @@ loop-round-preserved g c =
     let n = before.0 in
     let m = c.loop-round.now in
     record {
+      some = c.next_round-now.ensures.some;
       on = c.drive_from.ensures.on;
       moved = (
         n + m,

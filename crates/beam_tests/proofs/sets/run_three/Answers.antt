@@ -5,8 +5,8 @@ use Rattle.beam_set.specs.Sets.{EachPair, SlotBegins}
 use Rattle.beam_tests.proofs.Three.{each_of_three}
 use Rattle.beam_tests.proofs.sets.run_three.Goals as goal
 
-pub run_set-requires-after_bounds : goal.run_set-requires-after_bounds
-run_set-requires-after_bounds g c κs within =
+pub run_set-requires-clause-begins : goal.run_set-requires-clause-begins
+run_set-requires-clause-begins g c κs within =
     let a : Option Beam = Some c.in_ok-first.first in
     let b : Option Beam = Some c.in_ok-second.second in
     let d : Option Beam = Some c.in_ok-third.third in

@@ -41,8 +41,11 @@ returns-in-Err-open_all g c =
     c.in-Ok.ensures.read begun c.args.said.now.within c.args.said.now.more (g.K.Sink.seen c.args.out.now)
     (g.K.Sink.seen c.args.out.now) c.in-Err-open_all.stop refl c.in-Err-open_all.ensures.stopped
 
-pub run_joined-ends-requires-after_bounds : goal.run_joined-ends-requires-after_bounds
-run_joined-ends-requires-after_bounds g c = λ lifetimes lives.
+pub run_joined-ends-requires-clause-turns : goal.run_joined-ends-requires-clause-turns
+run_joined-ends-requires-clause-turns g c = λ lifetimes lives. c.requires.range.run.least_turns
+
+pub run_joined-ends-requires-clause-can : goal.run_joined-ends-requires-clause-can
+run_joined-ends-requires-clause-can g c = λ lifetimes lives.
     let s = settings_seen c.args.said.now.settings in
     let count = length c.args.said.now.settings.run.names.items in
     let same = length-map c.args.said.now.settings.run.names.items string_bytes in

@@ -5,17 +5,17 @@ use Rattle.psr_beams.proofs.drive.run_joined.Goals as goal
 pub join_all-beams-requires : goal.join_all-beams-requires
 join_all-beams-requires g c = (
   told_at g.I.Inputs.told c.args.inputs.now,
-  c.requires.0,
-  c.requires.1,
-  c.requires.2.joins,
+  c.requires.can.0,
+  c.requires.can.1,
+  c.requires.can.2.joins,
 )
 
-pub run_set-requires-after_bounds : goal.run_set-requires-after_bounds
-run_set-requires-after_bounds g c = λ lifetimes lives.
-    let can = c.requires.2 in
-    set_begins g.I.Inputs.told g.I.Inputs.is_open c.requires.0 c.args.observation.now c.requires.1 c.args.inputs.now
+pub run_set-requires-clause-begins : goal.run_set-requires-clause-begins
+run_set-requires-clause-begins g c = λ lifetimes lives.
+    let can = c.requires.can.2 in
+    set_begins g.I.Inputs.told g.I.Inputs.is_open c.requires.can.0 c.args.observation.now c.requires.can.1 c.args.inputs.now
     c.args.spaces.items c.args.feeders.items can c.join_all-beams.result.items
-    (c.join_all-beams.ensures (told_at g.I.Inputs.told c.args.inputs.now) c.requires.0 c.requires.1 can.joins)
+    (c.join_all-beams.ensures (told_at g.I.Inputs.told c.args.inputs.now) c.requires.can.0 c.requires.can.1 can.joins)
 
 pub returns-clause-come : goal.returns-clause-come
 returns-clause-come g c = λ s count can.

@@ -1,0 +1,7 @@
+use Rattle.std.proofs.Common.{◌≡◌, ℕ, ◌<◌, None}
+use Rattle.psr_beams.specs.Ends.{stop_at_data, stop_in}
+use Rattle.psr_beams.proofs.ends.first_data_stop.Given as goal
+
+-- those before have no stop
+abbrev pub invariant-loop-beam : goal.invariant-loop-beam
+invariant-loop-beam l = (k : ℕ) → k < l.beam → stop_in stop_at_data l.ends k ≡ None

@@ -1,7 +1,0 @@
-use Rattle.std.proofs.Common.{◌≡◌, ℕ, ◌<◌, None}
-use Rattle.psr_beams.specs.Ends.{stop_in}
-use Rattle.psr_beams.proofs.ends.first_stop.Given as goal
-
--- those before have no stop
-abbrev pub invariant-loop-beam : goal.invariant-loop-beam
-invariant-loop-beam l = (k : ℕ) → k < l.beam → stop_in l.ends k ≡ None
