@@ -91,6 +91,16 @@ pub record HasNoRoom (s : LevelOptions) (o : Observation) (header : HeaderText) 
       (fixed_text (field_decimals (get_or all_fields place Tsamp)) (pos number))
       (with_numbers (new_number s o header) (take place all_fields) header) (Overfull need size)
 
+-- none of them does
+abbrev pub HasRoom : LevelOptions → Observation → HeaderText → Type 0
+HasRoom s o header = (need size : ℕ) → HasNoRoom s o header need size → ⊥
+
+-- a header has room for the number of a field, if it gets one
+abbrev pub HasRoomFor : Field → Option ℕ → HeaderText → Type 0
+HasRoomFor field number header = (n need size : ℕ) → number ≡ Some n →
+    IsOverfull (field_name field) (fixed_text (field_decimals field) (pos n)) header
+    (Overfull need size) → ⊥
+
 abbrev pub FindsNoRoom : LevelOptions → Observation → HeaderText → SetFault → Type 0
 FindsNoRoom s o header (Overfull need size) = HasNoRoom s o header need size
 

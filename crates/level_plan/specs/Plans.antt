@@ -16,6 +16,7 @@ pub record OptionsInRange (s : LevelOptions) : Type 0 where
   pub most_spectra : s.spectra ≤ 1048576
   pub least_average : 1 ≤ s.average
   pub most_average : s.average ≤ 64
+  pub clip : ForSome s.clip (λ n. n ≤ 1000000000)
   pub mean : ForSome s.mean (λ n. n ≤ 65535000)
   pub deviation : ForSome s.deviation (λ n. n ≤ 1000000)
   pub most : ForSome s.most (λ n. n ≤ 65535)
@@ -57,6 +58,8 @@ plan_of s o = record {
   deviation = unwrap_or s.deviation (usual_deviation s o);
   most = min (unwrap_or s.most (usual_most s o)) (most_of (written_bits s o));
   bits = written_bits s o;
+  clip = s.clip;
+  zero_dm = s.zero_dm;
 }
 
 -- the channels that a mask text names, in the order of the file

@@ -6,7 +6,7 @@ ghost use Rattle.dada_model.specs.Change.{IsWord};
 ghost use Rattle.dada_header.specs.Changes.{IsOverfull};
 ghost use Rattle.psr_base.specs.Fixed.{fixed_text};
 ghost use Rattle.level_plan.specs.Plans.{OptionsInRange};
-ghost use Rattle.level_plan.specs.Headers.{if_count, told_count, new_count as new_count_of, new_number as new_number_of, with_number, level_header as level_header_of, FindsNoRoom, ExplainsHeader, field_name, field_decimals};
+ghost use Rattle.level_plan.specs.Headers.{if_count, told_count, new_count as new_count_of, new_number as new_number_of, with_number, level_header as level_header_of, FindsNoRoom, ExplainsHeader, HasRoom, HasRoomFor, field_name, field_decimals};
 
 use crate::field::{FIELDS, Field};
 use crate::plans::written_bits;
@@ -116,6 +116,7 @@ fn set(header: &mut Header, field: Field, number: Option<u64>) -> Result<(), Set
     ensures full { IfErr result (λ fault. (n : ℕ) × (number ≡ Some n)
         × IsOverfull (field_name field) (fixed_text (field_decimals field) (pos n)) header.old
         fault) }
+    ensures room { OnOk result (HasRoomFor field number header.old) }
 {
     match number {
         Some(number) => {
@@ -138,6 +139,7 @@ fn set_all(
     ensures ok { OnOk result (header.new ≡ level_header_of options observation.now first.now) }
     ensures full { IfErr result (λ fault.
         FindsNoRoom options observation.now first.now fault) }
+    ensures room { OnOk result (HasRoom options observation.now first.now) }
 {
     for field in FIELDS.iter() {
         let number = new_number(options, observation, first, *field);
@@ -161,6 +163,7 @@ pub fn level_header(
         levelled ≡ level_header_of options observation.now header.now) }
     ensures full { IfErr result (λ stop.
         ExplainsHeader options observation.now header.now stop) }
+    ensures room { OnOk result (HasRoom options observation.now header.now) }
 {
     let mut levelled = match Header::blank(alloc) {
         Ok(levelled) => levelled,

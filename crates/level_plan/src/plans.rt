@@ -94,6 +94,8 @@ pub fn plan_of(options: LevelOptions, observation: &Observation) -> Plan
             .unwrap_or(usual_deviation(options, observation)),
         most: most.min(if bits == 16 { 65535 } else { 255 }),
         bits,
+        clip: options.clip,
+        zero_dm: options.zero_dm,
     }
 }
 

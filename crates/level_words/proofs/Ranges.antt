@@ -9,19 +9,20 @@ use Rattle.option_rows.specs.Rows.{limits_allow}
 use Rattle.option_rows.specs.Laws.{ValuesAreAllowed, NoneFails}
 use Rattle.search_words.specs.Transfers.{AreTransferStarts}
 use Rattle.level_words.specs.declared.opt.Opt.{Opt}
-use Rattle.level_words.specs.declared.opt.Opt.TheVariants.{Spectra, Average, Mask, Mean, Deviation, Most, MaxBytes, File}
+use Rattle.level_words.specs.declared.opt.Opt.TheVariants.{Spectra, Average, Mask, Clip, Mean, Deviation, Most, MaxBytes, File}
 use Rattle.level_words.specs.Table.{all_options, option_row, option_name}
 use Rattle.level_words.specs.Values.{option_value, option_number, is_in_range, first_out_of_range, files_of, are_few}
 use Rattle.level_words.specs.Settings.{LevelInRange, settings_of}
 
 in_range_at : NoneFails Opt → (found : List Found) → first_out_of_range found ≡ None →
-    (i : ℕ) → i < 8 → is_in_range found (get_or all_options i File) ≡ true
+    (i : ℕ) → i < 9 → is_in_range found (get_or all_options i File) ≡ true
 in_range_at passing found none i within = passing (is_in_range found) all_options none i File within
 
 default_allowed : (opt : Opt) → limits_allow (option_row opt).limits (option_row opt).default ≡ true
 default_allowed Spectra = refl
 default_allowed Average = refl
 default_allowed Mask = refl
+default_allowed Clip = refl
 default_allowed Mean = refl
 default_allowed Deviation = refl
 default_allowed Most = refl
@@ -66,18 +67,20 @@ level_in_range passing law found none =
     let at = in_range_at passing found none in
     let spectra = between_parts 2 1048576 (option_number found Spectra) (allowed law found Spectra (at 0 (lit< tt))) in
     let average = between_parts 1 64 (option_number found Average) (allowed law found Average (at 1 (lit< tt))) in
-    let mean = between_parts 0 65535000 (option_number found Mean) (allowed law found Mean (at 3 (lit< tt))) in
+    let clip = between_parts 0 1000000000 (option_number found Clip) (allowed law found Clip (at 3 (lit< tt))) in
+    let mean = between_parts 0 65535000 (option_number found Mean) (allowed law found Mean (at 4 (lit< tt))) in
     let deviation = between_parts 0 1000000 (option_number found Deviation)
-    (allowed law found Deviation (at 4 (lit< tt))) in
-    let most = between_parts 1 65535 (option_number found Most) (allowed law found Most (at 5 (lit< tt))) in
+    (allowed law found Deviation (at 5 (lit< tt))) in
+    let most = between_parts 1 65535 (option_number found Most) (allowed law found Most (at 6 (lit< tt))) in
     let bytes = between_parts 0 281474976710656 (option_number found MaxBytes)
-    (allowed law found MaxBytes (at 6 (lit< tt))) in
-    let names = few_names (all_of (option_name File) found) (at 7 (lit< tt)) in
+    (allowed law found MaxBytes (at 7 (lit< tt))) in
+    let names = few_names (all_of (option_name File) found) (at 8 (lit< tt)) in
     record {
       least_spectra = spectra.0;
       most_spectra = spectra.1;
       least_average = average.0;
       most_average = average.1;
+      clip = at_most (first_of (option_name Clip) found) (option_number found Clip) 1000000000 clip.1;
       mean = at_most (first_of (option_name Mean) found) (option_number found Mean) 65535000 mean.1;
       deviation = at_most (first_of (option_name Deviation) found) (option_number found Deviation) 1000000 deviation.1;
       most = at_most (first_of (option_name Most) found) (option_number found Most) 65535 most.1;

@@ -9,7 +9,7 @@ use Rattle.clap.specs.Faults.{fault_of}
 use Rattle.clap.specs.declared.builder.action.ArgAction.TheVariants.{Append, SetTrue}
 use Rattle.level_words.specs.declared.opt.Opt.{Opt}
 use Rattle.level_words.specs.declared.opt.Flag.{Flag}
-use Rattle.level_words.specs.declared.opt.Flag.TheVariants.{Fast, Signed, HighByteFirst}
+use Rattle.level_words.specs.declared.opt.Flag.TheVariants.{Fast, ZeroDm, Signed, HighByteFirst}
 use Rattle.level_words.specs.Table.{option_name, flag_name, valued_options}
 
 abbrev pub option_rule : Opt → Rule
@@ -36,8 +36,9 @@ command_with rules = record {
 }
 
 unfoldable pub level_command : App
-level_command = command_with ((((map option_rule valued_options ++ flag_rule Fast ∷ [])
-    ++ flag_rule Signed ∷ []) ++ flag_rule HighByteFirst ∷ []) ++ file_rule ∷ [])
+level_command = command_with (((((map option_rule valued_options ++ flag_rule Fast ∷ [])
+    ++ flag_rule ZeroDm ∷ []) ++ flag_rule Signed ∷ []) ++ flag_rule HighByteFirst ∷ [])
+    ++ file_rule ∷ [])
 
 -- clap takes the words, of which the first is the program's name: nothing in them is at fault
 abbrev pub TakesWords : List Text → Type 0

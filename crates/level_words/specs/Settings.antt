@@ -6,8 +6,8 @@ use Rattle.clap.specs.Walk.{Row as Found, Text}
 use Rattle.clap.specs.declared.error.kind.ErrorKind.{ErrorKind}
 use Rattle.clap.specs.declared.error.kind.ErrorKind.TheVariants.{OutOfMemory}
 use Rattle.search_words.specs.Settings.{RunSeen, RunInRange, run_seen}
-use Rattle.level_words.specs.declared.opt.Opt.TheVariants.{Spectra, Average, Mean, Deviation, Most, MaxBytes}
-use Rattle.level_words.specs.declared.opt.Flag.TheVariants.{Fast, Signed, HighByteFirst}
+use Rattle.level_words.specs.declared.opt.Opt.TheVariants.{Spectra, Average, Clip, Mean, Deviation, Most, MaxBytes}
+use Rattle.level_words.specs.declared.opt.Flag.TheVariants.{Fast, ZeroDm, Signed, HighByteFirst}
 use Rattle.level_words.specs.declared.settings.LevelOptions.{LevelOptions}
 use Rattle.level_words.specs.declared.settings.LevelSettings.{LevelSettings}
 use Rattle.level_words.specs.declared.fault.LevelFault.{LevelFault}
@@ -30,6 +30,7 @@ pub record LevelInRange (s : LevelSeen) : Type 0 where
   pub most_spectra : s.options.spectra ≤ 1048576
   pub least_average : 1 ≤ s.options.average
   pub most_average : s.options.average ≤ 64
+  pub clip : ForSome s.options.clip (λ n. n ≤ 1000000000)
   pub mean : ForSome s.options.mean (λ n. n ≤ 65535000)
   pub deviation : ForSome s.options.deviation (λ n. n ≤ 1000000)
   pub most : ForSome s.options.most (λ n. n ≤ 65535)
@@ -39,6 +40,8 @@ abbrev pub options_of : List Found → LevelOptions
 options_of found = record {
   spectra = option_number found Spectra;
   average = option_number found Average;
+  clip = given_number found Clip;
+  zero_dm = is_given found ZeroDm;
   mean = given_number found Mean;
   deviation = given_number found Deviation;
   most = given_number found Most;

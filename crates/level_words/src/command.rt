@@ -12,10 +12,11 @@ use clap::{Arg, ArgAction, ArgMatches, Command, Error};
 use std::alloc::{AllocError, Global};
 
 // The options that take a value.
-const VALUED: [Opt; 7] = [
+const VALUED: [Opt; 8] = [
     Opt::Spectra,
     Opt::Average,
     Opt::Mask,
+    Opt::Clip,
     Opt::Mean,
     Opt::Deviation,
     Opt::Most,
@@ -78,6 +79,7 @@ fn command<'a>(alloc: Global) -> Result<Command<'a>, AllocError>
 {
     let command = with_options(alloc)?;
     let command = with_arg(command, flag(alloc, Flag::Fast))?;
+    let command = with_arg(command, flag(alloc, Flag::ZeroDm))?;
     let command = with_arg(command, flag(alloc, Flag::Signed))?;
     let command = with_arg(command, flag(alloc, Flag::HighByteFirst))?;
     with_arg(command, file(alloc))

@@ -10,6 +10,7 @@ pub enum Opt {
     Spectra,
     Average,
     Mask,
+    Clip,
     Mean,
     Deviation,
     Most,
@@ -18,10 +19,11 @@ pub enum Opt {
 }
 
 /// The options in the order in which their values are judged.
-pub(crate) const OPTIONS: [Opt; 8] = [
+pub(crate) const OPTIONS: [Opt; 9] = [
     Opt::Spectra,
     Opt::Average,
     Opt::Mask,
+    Opt::Clip,
     Opt::Mean,
     Opt::Deviation,
     Opt::Most,
@@ -33,6 +35,7 @@ pub(crate) const OPTIONS: [Opt; 8] = [
 #[derive(Clone, Copy, PartialEq, Eq, Debug)]
 pub enum Flag {
     Fast,
+    ZeroDm,
     Signed,
     HighByteFirst,
 }
@@ -46,6 +49,7 @@ impl Opt {
             Opt::Spectra => "spectra",
             Opt::Average => "average",
             Opt::Mask => "mask",
+            Opt::Clip => "clip",
             Opt::Mean => "mean",
             Opt::Deviation => "deviation",
             Opt::Most => "most",
@@ -62,6 +66,7 @@ impl Opt {
             Opt::Spectra => Row::between(Reader::Whole, 2, 1048576, 16384),
             Opt::Average => Row::between(Reader::Whole, 1, 64, 1),
             Opt::Mask => Row::between(Reader::Whole, 0, 0, 0),
+            Opt::Clip => Row::between(Reader::Decimals(3), 0, 1000000000, 0),
             Opt::Mean => Row::between(Reader::Decimals(3), 0, 65535000, 0),
             Opt::Deviation => Row::between(Reader::Decimals(3), 0, 1000000, 0),
             Opt::Most => Row::between(Reader::Whole, 1, 65535, 65535),
@@ -78,6 +83,7 @@ impl Flag {
     {
         match self {
             Flag::Fast => "fast",
+            Flag::ZeroDm => "zero-dm",
             Flag::Signed => "signed",
             Flag::HighByteFirst => "high-byte-first",
         }

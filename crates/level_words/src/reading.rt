@@ -24,6 +24,8 @@ fn options_of(matches: &ArgMatches<'_>) -> LevelOptions
     LevelOptions {
         spectra: small_number(matches, Opt::Spectra),
         average: small_number(matches, Opt::Average),
+        clip: given(matches, Opt::Clip),
+        zero_dm: has(matches, Flag::ZeroDm),
         mean: given(matches, Opt::Mean),
         deviation: given(matches, Opt::Deviation),
         most: given(matches, Opt::Most),

@@ -13,6 +13,11 @@ pub struct LevelOptions {
     pub spectra: u32,
     /// How many neighbouring spectra are added up to one.
     pub average: u32,
+    /// How many standard deviations, in thousandths, the mean of a spectrum may lie from that of the band; a spectrum
+    /// farther off is replaced. `None`: each is kept.
+    pub clip: Option<u32>,
+    /// Whether the mean of each spectrum is taken out of it.
+    pub zero_dm: bool,
     /// The mean of a levelled channel, in thousandths.
     pub mean: Option<u32>,
     /// Its standard deviation, in thousandths.

@@ -1,0 +1,10 @@
+pub mod Pieces
+pub mod Blocks
+pub mod Streamed
+pub mod Openings
+pub mod Told
+pub mod Fronts
+pub mod Ends
+pub mod Through
+pub mod Ending
+pub mod Answering

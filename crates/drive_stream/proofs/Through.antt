@@ -1,0 +1,105 @@
+-- A run from its settings on: over the inputs before anything was read.
+use Rattle.std.proofs.Common.{◌≡◌, ℕ, List, [], Option, Some, inl, inr, refl, sym, ap, ◌∙◌, subst}
+use Rattle.std.specs.Prelude.{slice_index_or, IsSome}
+use Rattle.psr_base.specs.Inputs.{HasReadFrom}
+use Rattle.psr_base.specs.Told.{Told}
+use Rattle.psr_base.specs.Written.{SinkSeen}
+use Rattle.dada_model.specs.Fields.{HeaderText}
+use Rattle.dada_model.specs.Observation.{Observation}
+use Rattle.search_words.specs.Settings.{RunSeen}
+use Rattle.disk_feeder.specs.declared.feeder.Feeder.{Feeder}
+use Rattle.disk_feeder.specs.Feeder.{FeederRead}
+use Rattle.disk_feeder.specs.Filling.{HoldsAll}
+use Rattle.run_stop.specs.declared.stop.Stop.{Stop}
+use Rattle.run_stop.specs.declared.stop.Stop.TheVariants as halts
+use Rattle.search_opening.specs.Early.{LeavesEarly}
+use Rattle.drive_stream.specs.declared.stop.StreamStop.{StreamStop}
+use Rattle.drive_stream.specs.declared.stop.StreamStop.TheVariants.{Run}
+use Rattle.drive_stream.specs.Endings.{Ending}
+use Rattle.drive_stream.specs.Outcome.{BreaksData, EndsStream, LeavesInputs, SaysBefore}
+
+module _ {F : Type 0} (takes : Observation → HeaderText → Type 0) (refuses : Observation → HeaderText → F → Type 0)
+    (leaves : Observation → HeaderText → List ℕ → Ending F → SinkSeen → SinkSeen → Type 0) (s : RunSeen) where
+  -- there was no memory for the feeder
+  pub no_memory_ends : (told : Told) (seen : SinkSeen) →
+      EndsStream takes refuses leaves s told seen seen (Some (Run halts.Memory))
+  no_memory_ends told seen =
+      inl (record { what = Run halts.Memory; is = refl; says = (tt, tt); untouched = refl })
+
+pub stopped_ends : {I F : Type 0} (told : I → Told) (takes : Observation → HeaderText → Type 0)
+    (refuses : Observation → HeaderText → F → Type 0)
+    (leaves : Observation → HeaderText → List ℕ → Ending F → SinkSeen → SinkSeen → Type 0) (s : RunSeen) (old start : I)
+    (seen : SinkSeen) (stop : StreamStop F) → start ≡ old → SaysBefore refuses s (told start) stop →
+    EndsStream takes refuses leaves s (told old) seen seen (Some stop)
+stopped_ends told takes refuses leaves s old start seen stop same says =
+    inl (record {
+      what = stop;
+      is = refl;
+      says = subst (λ i. SaysBefore refuses s (told i) stop) same says;
+      untouched = refl;
+    })
+
+module _ {I : Type 0} (told : I → Told) (is_calm : I → Type 0) (faults : I → ℕ) where
+  pub names_through : (old start mid : I) (failed : Type 0) → start ≡ old →
+      HasReadFrom told is_calm faults failed start mid → (told mid).bytes_under ≡ (told old).bytes_under
+  names_through old start mid failed same read = read.names ∙ ap (λ i. (told i).bytes_under) same
+
+  pub serves_through : (s : RunSeen) (old start mid : I) (failed fails : Type 0) → start ≡ old →
+      HasReadFrom told is_calm faults failed start mid →
+      (is_calm mid → HoldsAll (told mid) s.names → fails → ⊥) →
+      is_calm old → HoldsAll (told old) s.names → fails → ⊥
+  serves_through s old start mid failed fails same read serves calm holds =
+      let names = names_through old start mid failed same read in
+      serves (read.calm (subst is_calm (sym same) calm)) (λ k below.
+      subst (λ (under : List ℕ → Option (List ℕ)). IsSome (under (slice_index_or s.names k []))) (sym names)
+      (holds k below))
+
+-- ---- what was read
+
+-- no file was opened, as there was no memory
+pub left_unread : {F : Type 0} (s : RunSeen) (is_calm : Type 0) (told : Told) →
+    LeavesInputs {F = F} s is_calm told told (Some (Run halts.Memory))
+left_unread s is_calm told = record { unread = λ is. inl refl; broken = λ is. absurd cc }
+
+run_same : {F : Type 0} (a : StreamStop F) (b : Stop) → Some a ≡ Some (Run b) → a ≡ Run b
+run_same a b is = cc
+
+pub left_early : {I F : Type 0} (told : I → Told) (is_calm : I → Type 0) (s : RunSeen) (old start new : I)
+    (stop : StreamStop F) → start ≡ old → ((what : Stop) → stop ≡ Run what →
+    LeavesEarly s (is_calm start) (told start) (told new) what) →
+    LeavesInputs s (is_calm old) (told old) (told new) (Some stop)
+left_early told is_calm s old start new stop same left =
+    let P : _ → Type 0 = λ i. LeavesInputs s (is_calm i) (told i) (told new) (Some stop) in
+    subst P same (record {
+      unread = λ is. inr ((left halts.Memory (run_same stop halts.Memory is)).unread refl);
+      broken = λ is. inl ((left halts.ReadFault (run_same stop halts.ReadFault is)).broke refl);
+    })
+
+pub left_broken : {I F : Type 0} (told : I → Told) (is_calm : I → Type 0) (faults : I → ℕ) (s : RunSeen)
+    (old start mid new : I) (failed : Type 0) (stop : Option (StreamStop F)) → start ≡ old →
+    HasReadFrom told is_calm faults failed start mid → (stop ≡ Some (Run halts.Memory) → ⊥) →
+    (f : Feeder I) →
+    (stop ≡ Some (Run halts.ReadFault) → (told mid).bytes_under ≡ (told old).bytes_under →
+    FeederRead (told old) (told mid) f → BreaksData s (is_calm mid) (told old) (told new)) →
+    FeederRead (told start) (told mid) f →
+    LeavesInputs s (is_calm old) (told old) (told new) stop
+left_broken told is_calm faults s old start mid new failed stop same read memory f broken begins =
+    let Read : _ → Type 0 = λ i. FeederRead (told i) (told mid) f in
+    record {
+      unread = λ is. absurd (memory is);
+      broken = λ is.
+          let b = broken is (names_through told is_calm faults old start mid failed same read) (subst Read same begins) in
+          let calmer : is_calm old → is_calm mid = λ calm. read.calm (subst is_calm (sym same) calm) in
+          inr (record {
+            at = b.at;
+            size = b.size;
+            blocks = b.blocks;
+            there = b.there;
+            passed = b.passed;
+            cut = b.cut;
+            stood = b.stood;
+            missing = λ calm. b.missing (calmer calm);
+            shut = λ calm. b.shut (calmer calm);
+            unopened = λ calm. b.unopened (calmer calm);
+          });
+    }

@@ -1,0 +1,60 @@
+use Rattle.std.proofs.Common.{Some, Err, sym, ap, subst}
+use Rattle.search_words.specs.Settings.{run_seen}
+use Rattle.drive_stream.specs.Outcome.{LeavesInputs}
+use Rattle.drive_stream.proofs.Through.{left_unread, left_early, left_broken, no_memory_ends, stopped_ends, names_through, serves_through}
+use Rattle.drive_stream.proofs.run.within.Goals as goal
+
+pub returns-in-Err-clause-ends : goal.returns-in-Err-clause-ends
+returns-in-Err-clause-ends g c =
+    let t = g.T.Streaming in
+    no_memory_ends (t.takes c.args.task.now) (t.refuses c.args.task.now) (t.leaves c.args.task.now)
+    (run_seen c.args.run.now) (g.I.Inputs.told c.args.inputs.now) (g.K.Sink.seen c.args.out.now)
+
+pub returns-in-Err-open-clause-ends : goal.returns-in-Err-open-clause-ends
+returns-in-Err-open-clause-ends g c =
+    let t = g.T.Streaming in
+    let i = g.I.Inputs in
+    stopped_ends i.told (t.takes c.args.task.now) (t.refuses c.args.task.now) (t.leaves c.args.task.now)
+    (run_seen c.args.run.now) c.args.inputs.now c.over-feeder.result.inputs.now (g.K.Sink.seen c.args.out.now)
+    c.in-Err-open.stop c.over-feeder.ensures.inputs c.in-Err-open.ensures.stopped
+
+pub returns-in-Ok-open-clause-serves : goal.returns-in-Ok-open-clause-serves
+returns-in-Ok-open-clause-serves g c =
+    let i = g.I.Inputs in
+    serves_through i.told i.is_calm i.faults (run_seen c.args.run.now) c.args.inputs.now
+    c.over-feeder.result.inputs.now c.open.new.feeder.inputs.now _ _ c.over-feeder.ensures.inputs
+    c.open.ensures.inputs c.stream_all-done.ensures.serves
+
+pub returns-in-Ok-open-clause-ends : goal.returns-in-Ok-open-clause-ends
+returns-in-Ok-open-clause-ends g c =
+    let i = g.I.Inputs in
+    c.stream_all-done.ensures.ends (i.told c.args.inputs.now)
+    (names_through i.told i.is_calm i.faults c.args.inputs.now c.over-feeder.result.inputs.now
+    c.open.new.feeder.inputs.now _ c.over-feeder.ensures.inputs c.open.ensures.inputs)
+
+pub returns-in-Err-clause-leaves : goal.returns-in-Err-clause-leaves
+returns-in-Err-clause-leaves g c =
+    left_unread (run_seen c.args.run.now) (g.I.Inputs.is_calm c.args.inputs.now) (g.I.Inputs.told c.args.inputs.now)
+
+pub returns-in-Err-open-clause-leaves : goal.returns-in-Err-open-clause-leaves
+returns-in-Err-open-clause-leaves g c =
+    let i = g.I.Inputs in
+    let P : _ → Type 0 = λ n. LeavesInputs (run_seen c.args.run.now) (i.is_calm c.args.inputs.now)
+    (i.told c.args.inputs.now) (i.told n) (Some c.in-Err-open.stop) in
+    subst P (sym c.close-in-Err-open.ensures.inputs)
+    (left_early i.told i.is_calm (run_seen c.args.run.now) c.args.inputs.now c.over-feeder.result.inputs.now
+    c.open.new.feeder.inputs.now c.in-Err-open.stop c.over-feeder.ensures.inputs
+    (λ stop is. c.in-Err-open.ensures.leaves stop (ap Err is)))
+
+pub returns-in-Ok-open-clause-leaves : goal.returns-in-Ok-open-clause-leaves
+returns-in-Ok-open-clause-leaves g c =
+    let i = g.I.Inputs in
+    let P : _ → Type 0 = λ n. LeavesInputs (run_seen c.args.run.now) (i.is_calm c.args.inputs.now)
+    (i.told c.args.inputs.now) (i.told n) c.stream_all-done.result in
+    subst P (sym c.close.ensures.inputs)
+    (left_broken i.told i.is_calm i.faults (run_seen c.args.run.now) c.args.inputs.now c.over-feeder.result.inputs.now
+    c.open.new.feeder.inputs.now c.stream_all-done.new.feeder.inputs.now _ c.stream_all-done.result
+    c.over-feeder.ensures.inputs c.open.ensures.inputs c.stream_all-done.ensures.memory
+    c.open.new.feeder
+    (λ failed same read. c.stream_all-done.ensures.broken failed (i.told c.args.inputs.now) same read)
+    c.in-Ok-open.ensures.begins)

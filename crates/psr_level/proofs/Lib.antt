@@ -1,0 +1,6 @@
+pub mod Completing
+pub mod Drains
+pub mod Ending
+pub mod Stretches
+pub mod Taken
+pub mod Leaving
