@@ -1,6 +1,6 @@
 -- How many parts end before so many spectra.
 use Rattle.std.proofs.Common.{◌≡◌, ℕ, zero, suc, ◌+◌, ◌-◌, ◌*◌, ◌/◌, ◌≤◌, ◌<◌, List, refl, ◌∙◌, ap, arith}
-use Rattle.std.proofs.Math.Nat.{div-eq_of_lt-le, div-lt_iff_lt-mul, lt-div-mul-add, mul-le-mul_right}
+use Rattle.std.proofs.Math.Nat.{div-eq_of_lt-le, div-lt_iff_lt-mul, div-mul-le_self, lt-div-mul-add, mul-le-mul_right}
 use Rattle.std.proofs.lemmas.Nat.{le-div}
 use Rattle.search_model.specs.declared.candidate.Candidate.{Candidate}
 use Rattle.warm_restart.specs.declared.checkpoint.Checkpoint.{Checkpoint}
@@ -75,3 +75,48 @@ module _ (l : Layout) (some : 1 ≤ l.every) (from : Checkpoint) (list : List Ca
       let many : k ≤ (spectra - 1) / l.every =
       le-div k (spectra - 1) l.every (omega (arith, some)) (omega (arith, place, end, before)) in
       omega (arith, few, many)
+
+  -- ---- as many as end before so many spectra
+
+  abbrev pub count : ℕ → ℕ
+  count spectra = parts_before l.every from.place spectra
+
+  -- each of them does
+  pub end_before : (k spectra : ℕ) → k < count spectra → next_end l.every (at k).place < spectra
+  end_before k spectra few =
+      let q : ℕ = (spectra - 1) / l.every in
+      let whole_parts : q * l.every ≤ spectra - 1 = div-mul-le_self (spectra - 1) l.every in
+      let first : 1 * l.every ≤ q * l.every = mul-le-mul_right l.every (let one : 1 ≤ q = omega (arith, few) in one) in
+      let ends : (from.place / l.every + k + 1) * l.every ≤ q * l.every =
+      mul-le-mul_right l.every (let more : from.place / l.every + k + 1 ≤ q = omega (arith, few) in more) in
+      let end = end_of k in
+      omega (arith, whole_parts, first, ends, end, some)
+
+  -- and the part behind them does not
+  pub end_after : (spectra : ℕ) → spectra ≤ next_end l.every (at (count spectra)).place
+  end_after spectra =
+      let q : ℕ = (spectra - 1) / l.every in
+      let k : ℕ = from.place / l.every + count spectra in
+      let below : spectra - 1 < q * l.every + l.every = lt-div-mul-add (omega (arith, some)) in
+      let most : (q + 1) * l.every ≤ (k + 1) * l.every =
+      mul-le-mul_right l.every (let more : q + 1 ≤ k + 1 = omega arith in more) in
+      let split : (q + 1) * l.every ≡ q * l.every + l.every = omega arith in
+      let end = end_of (count spectra) in
+      omega (arith, below, most, split, end)
+
+  -- so many spectra come past the places of all but the first one
+  pub place_before : (n spectra : ℕ) → n ≤ count spectra → 1 ≤ n → (at n).place < spectra
+  place_before zero spectra within more = absurd (omega (arith, more))
+  place_before (suc n) spectra within more =
+      let place = ap (λ (c : Checkpoint). c.place) (at_next n) in
+      let end = end_before n spectra (omega (arith, within)) in
+      omega (arith, place, end)
+
+  -- more parts end before more spectra
+  pub count_rises : (few spectra : ℕ) → few ≤ spectra → count few ≤ count spectra
+  count_rises few spectra less =
+      let q : ℕ = (few - 1) / l.every in
+      let whole_parts : q * l.every ≤ few - 1 = div-mul-le_self (few - 1) l.every in
+      let most : q ≤ (spectra - 1) / l.every =
+      le-div q (spectra - 1) l.every (omega (arith, some)) (omega (arith, whole_parts, less)) in
+      omega (arith, most)

@@ -9,3 +9,6 @@ pub mod Sizes
 pub mod Stepping
 pub mod Steps
 pub mod Texts
+pub mod Growing
+pub mod GoingOn
+pub mod Plain

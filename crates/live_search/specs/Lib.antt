@@ -1,4 +1,5 @@
 -- A search that writes its text while the data come.
 pub mod LiveText
 pub mod Live
+pub mod Laws
 pub mod Worked

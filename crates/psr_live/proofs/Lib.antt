@@ -1,0 +1,5 @@
+pub mod Said
+pub mod Streamed
+pub mod Ends
+pub mod Starting
+pub mod Reading

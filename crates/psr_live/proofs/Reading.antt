@@ -1,0 +1,145 @@
+-- What was read at want of memory, and what a fault of the inputs leaves.
+use Rattle.std.proofs.Common.{◌≡◌, ◌≢◌, ℕ, Bool, true, false, List, Option, Some, None, refl, sym, ◌∙◌, ap, subst, inl, inr}
+use Rattle.std.specs.Prelude.{IsSome, if◌then◌else◌}
+use Rattle.std.specs.Str.{bytes_eq}
+use Rattle.psr_base.specs.Told.{Told, OfFile, BreaksOff}
+use Rattle.search_model.specs.Parts.{check_line}
+use Rattle.search_words.specs.declared.fault.WordFault.{WordFault}
+use Rattle.search_words.specs.declared.fault.WordFault.TheVariants as word
+use Rattle.search_words.specs.Settings.{SettingsSeen, with_search}
+use Rattle.warm_restart.specs.declared.checkpoint.Checkpoint.{Checkpoint}
+use Rattle.warm_restart.specs.declared.checkpoint.CheckpointFault.{CheckpointFault}
+use Rattle.warm_restart.specs.declared.checkpoint.CheckpointFault.TheVariants as check
+use Rattle.warm_restart.specs.Named.{most_read, named_text, new_word, ReadsFront}
+use Rattle.run_stop.specs.declared.stop.Stop.TheVariants.{Memory, ReadFault}
+use Rattle.run_stop.specs.Conversions.{stop_of_words}
+use Rattle.run_stop.specs.Firsts.{BreaksFirstAt}
+use Rattle.drive_stream.specs.declared.stop.StreamStop.{StreamStop}
+use Rattle.drive_stream.specs.declared.stop.StreamStop.TheVariants as streamed
+use Rattle.drive_stream.specs.Outcome.{BreaksData, LeavesInputs}
+use Rattle.psr_part.specs.declared.stop.PartStop.TheVariants.{Run}
+use Rattle.psr_part.specs.Part.{check_word}
+use Rattle.psr_part.specs.Outcome.{BreaksAtCheck, ReadsCheck}
+use Rattle.psr_part.specs.Texts.{stop_of_checkpoint}
+use Rattle.psr_live.specs.declared.task.LiveRefusal.{LiveRefusal}
+use Rattle.psr_live.specs.declared.task.LiveRefusal.TheVariants as refusal
+use Rattle.psr_live.specs.Outcome.{GoesOnFrom, SayLive}
+use Rattle.psr_live.specs.Reads.{LeavesAtFault, ReadsNoData}
+use Rattle.psr_live.specs.Texts.{stop_of_stream}
+use Rattle.psr_live.proofs.Starting.{accepted, refused, to_stream}
+
+-- ---- before CHECK was accepted
+
+pub not_words : (f : WordFault) → Some (Run (stop_of_words f)) ≡ Some (Run ReadFault) → ⊥
+not_words word.Refused same = absurd cc
+not_words (word.OutOfRange opt) same = absurd cc
+not_words word.Memory same = absurd cc
+
+pub not_memory : (f : CheckpointFault) → Some (stop_of_checkpoint f) ≡ Some (Run Memory) → ⊥
+not_memory check.Failed same = absurd cc
+not_memory check.Form same = absurd cc
+not_memory (check.Place place until) same = absurd cc
+
+failed_is : (f : CheckpointFault) → Some (stop_of_checkpoint f) ≡ Some (Run ReadFault) → f ≡ check.Failed
+failed_is check.Failed same = refl
+failed_is check.Form same = absurd cc
+failed_is (check.Place place until) same = absurd cc
+
+-- a file that is told tells the text that its name stands for
+named_there : (is_new : Bool) (word : List ℕ) (told : Told) → IsSome (told.bytes_under word) →
+    IsSome (if is_new then Some (check_line 0 0) else told.bytes_under word)
+named_there true word told there = refl
+named_there false word told there = there
+
+pub breaks_at_check : (words : List (List ℕ)) (is_calm : Type 0) (word : List ℕ) (old new : Told) (f : CheckpointFault) →
+    word ≡ check_word words → (word ≡ new_word → refused f ≢ refused check.Failed) →
+    (refused f ≡ refused check.Failed → OfFile old word (λ _. BreaksOff most_read word old new)) →
+    (is_calm → IsSome (named_text old word) → refused f ≢ refused check.Failed) →
+    Some (stop_of_checkpoint f) ≡ Some (Run ReadFault) → BreaksAtCheck words is_calm old new
+breaks_at_check words is_calm word old new f is not_new broke serves same =
+    let failed : refused f ≡ refused check.Failed = ap refused (failed_is f same) in
+    let At : List ℕ → Type 0 = λ x. OfFile old x (λ _. BreaksOff most_read x old new) in
+    record {
+      other = λ e. not_new (is ∙ e) failed;
+      broke = subst At is (broke failed);
+      missing = λ calm there.
+          let told = subst (λ (x : List ℕ). IsSome (old.bytes_under x)) (sym is) there in
+          serves calm (named_there (bytes_eq word new_word) word old told) failed;
+    }
+
+-- ---- CHECK was read
+
+pub reads_check : {I : Type 0} (told : I → Told) (words : List (List ℕ)) (word : List ℕ) (old new : I) →
+    word ≡ check_word words → (word ≡ new_word → new ≡ old) →
+    (word ≢ new_word → OfFile (told old) word (λ file. ReadsFront most_read word file (told old) (told new))) →
+    (told new).bytes_under ≡ (told old).bytes_under → ReadsCheck words (told old) (told new)
+reads_check told words word old new is none front names = record {
+  new = λ e. ap told (none (is ∙ e));
+  named = λ other.
+      subst (λ (x : List ℕ). OfFile (told old) x (λ file. ReadsFront most_read x file (told old) (told new))) is
+      (front (λ e. other (sym is ∙ e)));
+  names = names;
+}
+
+-- ---- from then on
+
+to_memory : (stop : Option (StreamStop LiveRefusal)) → stop_of_stream stop ≡ Some (Run Memory) →
+    stop ≡ Some (streamed.Run Memory)
+to_memory None is = absurd cc
+to_memory (Some (streamed.Run stop)) is = cc
+to_memory (Some (streamed.Refused (refusal.Plan cause))) is = absurd cc
+to_memory (Some (streamed.Refused (refusal.Beyond place spectra))) is = absurd cc
+
+module _ (s : SettingsSeen) (calm calm' : Type 0) (stays : calm → calm') (before after : Told) where
+  first_stays : BreaksFirstAt s.names s.starts calm' before after → BreaksFirstAt s.names s.starts calm before after
+  first_stays b = record {
+    transfer = b.transfer;
+    there = b.there;
+    earlier = b.earlier;
+    broke = b.broke;
+    missing = λ c. b.missing (stays c);
+    unopened = λ c. b.unopened (stays c);
+  }
+
+  data_stays : BreaksData (with_search tt s) calm' before after → BreaksData (with_search tt s) calm before after
+  data_stays b = record {
+    at = b.at;
+    size = b.size;
+    blocks = b.blocks;
+    there = b.there;
+    passed = b.passed;
+    cut = b.cut;
+    stood = b.stood;
+    missing = λ c. b.missing (stays c);
+    shut = λ c. b.shut (stays c);
+    unopened = λ c. b.unopened (stays c);
+  }
+
+module _ (words : List (List ℕ)) (s : SettingsSeen) (says : SayLive words s) (from : Checkpoint)
+    (calm calm' : Type 0) (stays : calm → calm') (old mid new : Told) (goes : GoesOnFrom old words from)
+    (read : ReadsCheck words old mid) (stop : Option (StreamStop LiveRefusal))
+    (leaves : LeavesInputs (with_search tt s) calm' mid new stop) where
+  pub no_data : stop_of_stream stop ≡ Some (Run Memory) → ReadsNoData words old new
+  no_data is = inr (record {
+    settings = s;
+    says = says;
+    from = from;
+    accepted = goes;
+    told = mid;
+    read = read;
+    holds = leaves.unread (to_memory stop is);
+  })
+
+  pub at_fault : stop_of_stream stop ≡ Some (Run ReadFault) → LeavesAtFault words calm old new
+  at_fault is = inr (record {
+    settings = s;
+    says = says;
+    from = from;
+    accepted = goes;
+    told = mid;
+    read = read;
+    holds = elim (leaves.broken (to_stream stop is)) [
+      | inl first ↦ inl (first_stays s calm calm' stays mid new first)
+      | inr later ↦ inr (data_stays s calm calm' stays mid new later)
+    ];
+  })
