@@ -1,11 +1,13 @@
 #!/usr/bin/python3
-"""How well psr_hunt finds: hunt.py [FOLDER] [--receivers K ..] [--seeds N ..] [WORD ..], where WORDs go to psr_hunt.
+"""How well psr_hunt finds: hunt.py [FOLDER] [--receivers K ..] [--seeds N ..] [--low] [ARGUMENT ..]; what it does not
+know goes to psr_hunt.
 
 Filterbanks of three receivers are made in FOLDER (a temporary one): noise in an uneven band that drifts, with bad
 channels, bursts of interference in all channels and in some, thirty pulses and two pulsars. Pulses follow the exact
 dispersion law, are swept within each channel, and last as long at each frequency. Their S/N is the greatest that any
 weighted sum of the good channels has. psr_hunt searches each file, and a pulse counts as found if a candidate without a
 flag has its DM and time. A candidate without a flag that is none of these is false. The programs are those on the PATH.
+--low makes pulses that a zero-DM filter weakens: of low DMs, and wide.
 """
 from __future__ import annotations
 
@@ -31,6 +33,7 @@ from malletbean.arrays import Array  # noqa: E402
 
 PULSES, BURSTS, BAD = 30, 24, 6
 DMS, WIDTHS, RATIOS = (20.0, 2500.0), (0.5e-3, 30e-3), (6.0, 50.0)
+LOW_DMS, LOW_WIDTHS = (10.0, 100.0), (5e-3, 30e-3)
 # the mean of a channel where the band is strongest, and how many deviations of noise it is
 TOP_MEAN, TIMES_DEVIATION = 96.0, 8.0
 PIECE = 4096
@@ -92,14 +95,15 @@ class Sky:
     shapes: list[tuple[Array, Array]] = field(default_factory=list)
 
 
-def sky_of(receiver: Receiver, generator: np.random.Generator) -> Sky:
+def sky_of(receiver: Receiver, generator: np.random.Generator, is_low: bool = False) -> Sky:
     """Pulses and bad channels by chance."""
     def among(low: float, high: float) -> float:
         return float(np.exp(generator.uniform(np.log(low), np.log(high))))
 
+    dms, widths = (LOW_DMS, LOW_WIDTHS) if is_low else (DMS, WIDTHS)
     pulses = []
     for _ in range(PULSES):
-        dm, width, ratio = among(*DMS), among(*WIDTHS), among(*RATIOS)
+        dm, width, ratio = among(*dms), among(*widths), among(*RATIOS)
         # a pulse that lasts a part of a spectrum can't be told from one that lasts all of it
         width = max(width, receiver.sample / 2)
         last = receiver.length - receiver.delay(dm) - 1
@@ -207,6 +211,8 @@ class Score:
     seconds: float
     megabytes: float
     missed: list[Pulse]
+    # of each pulse that was found, how many of its errors its DM is off
+    errors: list[float]
 
 
 def hunted(receiver: Receiver, sky: Sky, path: str, folder: str, words: list[str]) -> Score:
@@ -221,6 +227,8 @@ def hunted(receiver: Receiver, sky: Sky, path: str, folder: str, words: list[str
         rows = list(csv.DictReader(line for line in file if not line.startswith("#")))
     clean, flagged = [row for row in rows if not row["flag"]], [row for row in rows if row["flag"]]
     single = [(pulse, any(fits(receiver, pulse, row) for row in clean)) for pulse in sky.pulses if not pulse.is_pulsar]
+    errors = [min(errors_off(pulse, row) for row in clean if fits(receiver, pulse, row)) for pulse, found in single
+              if found]
     false = [row for row in clean if not any(fits(receiver, pulse, row) for pulse in sky.pulses)]
     return Score(
         found={least: (sum(found for pulse, found in single if pulse.ratio >= least),
@@ -229,7 +237,12 @@ def hunted(receiver: Receiver, sky: Sky, path: str, folder: str, words: list[str
         flagged_pulses=sum(any(fits(receiver, pulse, row) for row in flagged) for pulse, found in single if not found),
         flagged=len(flagged), candidates=len(rows), seconds=seconds,
         megabytes=resource.getrusage(resource.RUSAGE_CHILDREN).ru_maxrss / 1000,
-        missed=[pulse for pulse, found in single if not found and pulse.ratio >= 8])
+        missed=[pulse for pulse, found in single if not found and pulse.ratio >= 8], errors=errors)
+
+
+def errors_off(pulse: Pulse, row: dict[str, str]) -> float:
+    """How many of its errors the DM of a candidate is off."""
+    return abs(float(row["dm"]) - pulse.dm) / float(row["dm_error"])
 
 
 def fits(receiver: Receiver, pulse: Pulse, row: dict[str, str]) -> bool:
@@ -248,22 +261,26 @@ def main() -> None:
     parser.add_argument("folder", nargs="?")
     parser.add_argument("--receivers", type=int, nargs="+", default=list(range(len(RECEIVERS))))
     parser.add_argument("--seeds", type=int, nargs="+", default=[1])
+    parser.add_argument("--low", action="store_true")
     asked, words = parser.parse_known_args()
     with tempfile.TemporaryDirectory(prefix="hunt.") as made:
         folder = asked.folder or made
-        print("| Receiver | S/N 10 and more | 8 and more | flagged alone | false candidates an hour | of S/N 8 | flagged |"
-              " time | memory |")
-        print("|---|---|---|---|---|---|---|---|---|")
+        print("| Receiver | S/N 10 and more | 8 and more | flagged alone | false candidates an hour | of S/N 8 | flagged "
+              "| DM within 1 error, 3 errors | time | memory |")
+        print("|---|---|---|---|---|---|---|---|---|---|")
         missed = []
         for number in asked.receivers:
             for seed in asked.seeds:
                 receiver = RECEIVERS[number]
-                score = tried(receiver, folder, f"{number}-{seed}", np.random.default_rng([seed, number]), words)
+                name = f"{number}-{seed}{'-low' if asked.low else ''}"
+                score = tried(receiver, folder, name, np.random.default_rng([seed, number]), words, asked.low)
+                near = [sum(error <= most for error in score.errors) for most in (1, 3)]
                 hours = receiver.length / 3600
                 print(f"| {receiver.name}, {receiver.length:g} s | {score.found[10][0]} of {score.found[10][1]} | "
                       f"{score.found[8][0]} of {score.found[8][1]} | {score.flagged_pulses} | "
                       f"{score.false[0.0] / hours:.0f} | "
-                      f"{score.false[8.0] / hours:.0f} | {score.flagged} of {score.candidates} | {score.seconds:.0f} s | "
+                      f"{score.false[8.0] / hours:.0f} | {score.flagged} of {score.candidates} | "
+                      f"{near[0]}, {near[1]} of {len(score.errors)} | {score.seconds:.0f} s | "
                       f"{score.megabytes:.0f} MB |", flush=True)
                 missed += [(receiver.name, pulse) for pulse in score.missed]
         for name, pulse in missed:
@@ -271,10 +288,11 @@ def main() -> None:
                   f"{pulse.time:.3f} s")
 
 
-def tried(receiver: Receiver, folder: str, name: str, generator: np.random.Generator, words: list[str]) -> Score:
+def tried(receiver: Receiver, folder: str, name: str, generator: np.random.Generator, words: list[str],
+          is_low: bool) -> Score:
     """Makes a file, if it is not there yet, and hunts in it."""
     path = os.path.join(folder, f"{name}.fil")
-    sky = sky_of(receiver, generator)
+    sky = sky_of(receiver, generator, is_low)
     if not os.path.exists(path):
         make(receiver, sky, path, generator)
     out = tempfile.mkdtemp(prefix=f"{name}-", dir=folder)

@@ -14,6 +14,7 @@ from collections.abc import Iterator, Sequence
 import numpy as np
 
 from .arrays import Array
+from .drift import without_drift
 from .headers import Header, header
 from .hunt_plan import LEVEL_MEAN
 from .manifest import Burst, Hunt, LevelFile, read_manifest
@@ -29,7 +30,8 @@ SPECTRUM, AT_A_TIME = 1e-3, 2**14
 def level_for_bursts(hunt: Hunt) -> LevelFile:
     """The level in which bursts are looked for."""
     seconds = hunt.observation.tsamp
-    return min(hunt.levels, key=lambda level: abs(math.log(level.average * seconds / SPECTRUM)))
+    levels = [level for level in hunt.levels if level.zero_dm]
+    return min(levels, key=lambda level: abs(math.log(level.average * seconds / SPECTRUM)))
 
 
 def opened(path: str, head: Header, mode: str) -> Array:
@@ -102,6 +104,13 @@ def strongest(series: Array) -> Iterator[tuple[int, int, float]]:
         left[begin:until] = 0
 
 
+def freed(folder: str, hunt: Hunt, level: LevelFile) -> None:
+    """Frees a level of bursts, and if it was made without zero DM of the drift of the band."""
+    quiet(folder, hunt, level)
+    if not level.zero_dm:
+        without_drift(folder, hunt, level)
+
+
 def quiet(folder: str, hunt: Hunt, level: LevelFile) -> None:
     """Replaces the values of a level by the mean where there are bursts."""
     head = header(os.path.join(folder, level.path))
@@ -113,10 +122,10 @@ def quiet(folder: str, hunt: Hunt, level: LevelFile) -> None:
 
 
 def main(folder: str) -> None:
-    """Frees all levels of a hunt of its bursts: a line of its commands."""
+    """Frees all levels of a hunt of its bursts and drifts: a line of its commands."""
     hunt = read_manifest(folder)
     for level in hunt.levels:
-        quiet(folder, hunt, level)
+        freed(folder, hunt, level)
 
 
 if __name__ == "__main__":

@@ -22,7 +22,7 @@ MOST_JOBS = 9999
 USUAL = {"min-delay": 0, "max-delay": 256, "widths": 8, "fold-step": 64, "fold-max": 0, "shards": 1, "spectra": 0}
 # how many digits a value may have
 DIGITS = {"spectra": 15}
-USAGE = "words refused: plan FOLDER JOBS [--spectra N] --mean V --sd V [OPTION V ..] FILE [FILE ..]"
+USAGE = "arguments refused: plan FOLDER JOBS [--spectra N] --mean V --sd V [OPTION V ..] FILE [FILE ..]"
 
 
 @dataclass
@@ -47,20 +47,20 @@ def program_at(name: str) -> str:
     """Where a program is: at the path that a variable of its name in capitals says, or on the PATH."""
     found = shutil.which(os.environ.get(name.upper(), name))
     if found is None:
-        raise Refusal(WORDS, f"{name} is not there: put it on the PATH, or set {name.upper()}")
+        raise Refusal(WORDS, f"there is no {name} on the PATH: put it there, or name it by the variable {name.upper()}")
     return os.path.abspath(found)
 
 
 def plan(words: Sequence[str]) -> None:
     """Makes the plan that the words ask for, and says how to run it."""
     if list(words) == ["--help"]:
-        print(f"usage: {USAGE.removeprefix('words refused: ')}")
+        print(f"usage: {USAGE.removeprefix('arguments refused: ')}")
         return
     if len(words) < 3:
         raise Refusal(WORDS, USAGE)
     folder, count, *rest = words
     if not re.fullmatch("[1-9][0-9]{0,3}", count):
-        raise Refusal(WORDS, f"JOBS is '{count}', and no number from 1 to {MOST_JOBS}")
+        raise Refusal(WORDS, f"JOBS is '{count}', not a number from 1 to {MOST_JOBS}")
     asked = asked_by(rest)
     first, last = asked.numbers["min-delay"], asked.numbers["max-delay"]
     if first > last:
@@ -106,7 +106,7 @@ def asked_by(words: Sequence[str]) -> Asked:
         raise Refusal(WORDS, USAGE)
     for name in ("mean", "sd"):
         if name not in asked.options:
-            raise Refusal(WORDS, f"--{name} is not said")
+            raise Refusal(WORDS, f"--{name} is missing")
     return asked
 
 
@@ -115,7 +115,7 @@ def add_file(asked: Asked, path: str) -> None:
     if path == "+":
         raise Refusal(WORDS, "several observations: plan each in a folder of its own")
     if not os.path.exists(path):
-        raise Refusal(WORDS, f"{path} is not there")
+        raise Refusal(WORDS, f"there is no file {path}")
     asked.files.append(os.path.abspath(path))
 
 
@@ -124,10 +124,10 @@ def add_option(asked: Asked, name: str, value: str) -> None:
     if name in USUAL:
         digits = DIGITS.get(name, 9)
         if not re.fullmatch(f"[0-9]{{1,{digits}}}", value):
-            raise Refusal(WORDS, f"--{name} is '{value}', and no number of at most {digits} digits")
+            raise Refusal(WORDS, f"--{name} is '{value}', not a whole number of at most {digits} digits")
         asked.numbers[name] = int(value)
     if name in asked.options:
-        raise Refusal(WORDS, f"--{name} is said twice")
+        raise Refusal(WORDS, f"--{name} is given twice")
     asked.options[name] = value
 
 

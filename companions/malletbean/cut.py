@@ -38,10 +38,10 @@ def parsed(words: Sequence[str]) -> argparse.Namespace:
     """The words of the command."""
     parser = Words(prog="psr_cut", description="Writes an observation, or a part of its time, as a SIGPROC filterbank.")
     parser.add_argument("file", metavar="FILE", help="a DADA file of filterbank samples, the first of an observation")
-    parser.add_argument("output", metavar="FIL", help="the filterbank, which must not be there")
+    parser.add_argument("output", metavar="FIL", help="the filterbank to write: a new file")
     parser.add_argument("--from", metavar="SECONDS", dest="begin", type=seconds, default=0.0,
                         help="where the part begins, after the beginning of FILE (0)")
-    parser.add_argument("--length", metavar="SECONDS", type=seconds, help="how long it is; up to the end without it")
+    parser.add_argument("--length", metavar="SECONDS", type=seconds, help="how long it is (up to the end)")
     parser.add_argument("--next", metavar="FILE", nargs="+", default=[], help="the observation's files behind FILE")
     return parser.parse_args(words)
 
@@ -50,7 +50,7 @@ def seconds(text: str) -> float:
     """A time in seconds, with nine decimals."""
     value = scaled(text, 9)
     if value is None or value < 0:
-        raise argparse.ArgumentTypeError(f"{text} is no time in seconds")
+        raise argparse.ArgumentTypeError(f"{text} is not a time in seconds")
     return value / 10**9
 
 

@@ -56,9 +56,9 @@ def psr_dada(words: Sequence[str]) -> None:
 
 def parsed(words: Sequence[str]) -> argparse.Namespace:
     """The words of the command."""
-    parser = Words(prog="psr_dada", description="Turns DADA files of another form into one that is searched.")
+    parser = Words(prog="psr_dada", description="Converts DADA files that no search takes to one that it takes.")
     parser.add_argument("files", metavar="FILE", nargs="+", help="the DADA files of one observation, in order")
-    parser.add_argument("output", metavar="OUT", help="the DADA file, which must not be there")
+    parser.add_argument("output", metavar="OUT", help="the DADA file to write: a new file")
     parser.add_argument("--state", metavar="STATE", type=str.upper, help="what the values are, in place of STATE: "
                         f"{', '.join(state.capitalize() for state in STATES)}")
     parser.add_argument("--order", metavar="ORDER", type=str.upper,

@@ -37,10 +37,10 @@ def psr_fil(words: Sequence[str]) -> None:
 
 def parsed(words: Sequence[str]) -> argparse.Namespace:
     """The words of the command."""
-    parser = Words(prog="psr_fil", description="Makes the DADA file of a SIGPROC filterbank.")
+    parser = Words(prog="psr_fil", description="Converts a SIGPROC filterbank to a DADA file.")
     parser.add_argument("files", metavar="FIL", nargs="+",
                         help="a SIGPROC filterbank of 1, 2, 4, 8, 16 or 32 bits, or several that follow one another")
-    parser.add_argument("output", metavar="OUT", help="the DADA file, which must not be there")
+    parser.add_argument("output", metavar="OUT", help="the DADA file to write: a new file")
     parser.add_argument("--if", metavar="K", dest="only", type=int,
                         help="this IF alone, counted from 0; else all of one or two")
     parser.add_argument("--keyword", metavar="NAME=KIND", type=keyword_kind, action="append",

@@ -39,10 +39,10 @@ def psr_fits(words: Sequence[str]) -> None:
 
 def parsed(words: Sequence[str]) -> argparse.Namespace:
     """The words of the command."""
-    parser = Words(prog="psr_fits", description="Makes the DADA file of search-mode PSRFITS files.")
+    parser = Words(prog="psr_fits", description="Converts search-mode PSRFITS files to a DADA file.")
     parser.add_argument("files", metavar="FITS", nargs="+",
                         help="a search-mode PSRFITS file, or several of one observation that follow one another")
-    parser.add_argument("output", metavar="OUT", help="the DADA file, which must not be there")
+    parser.add_argument("output", metavar="OUT", help="the DADA file to write: a new file")
     parser.add_argument("--pol", metavar="K", dest="only", type=int,
                         help="this polarisation alone, counted from 0; else those that a search adds, by POL_TYPE")
     return parser.parse_args(words)

@@ -32,6 +32,9 @@ NOISE_ADDS, SHAPE_ADDS = 3.0, 1.25
 NEAR = 3.0
 # deviations of a delay, in widths, times S/N: where half the square of the S/N of a pulse falls by 1/2
 DELAY_ERROR = 1.47
+# where S/N falls by 1, in widths divided by the root of S/N; and from how many widths on that says that the pulse is
+# wider than its box. Then noise may make the strongest of the many boxes in it anywhere within this reach
+ONE_LESS, WIDER = 2.08, 2.0
 # zeta of Cordes and McLaughlin (2003) for a delay that is off by one width
 ZETA = 0.8325
 # so many candidates within a second, each of such a part of the S/N at least, are a crowd
@@ -371,7 +374,9 @@ def dm_errors(searches: Sequence[Searched], groups: Groups) -> Array:
 
     Half the square of S/N is the logarithm of how likely a line is the true one, so the lines of a candidate say how
     far off the strongest one usually lies. Since paths follow a pulse in whole spectra alone, the noise of neighbouring
-    delays differs more than it would, and the error of a smooth curve comes in addition.
+    delays differs more than it would, and the error of a smooth curve comes in addition. In a pulse that is wider than
+    its box the strongest line is that of the strongest noise. There the delays of lines that are weaker by 1 at most
+    say how far off it may be.
     """
     lines, best = groups.lines, groups.best[groups.of_line]
     steps = np.array([search.head.seconds for search in searches])[lines.search]
@@ -381,7 +386,11 @@ def dm_errors(searches: Sequence[Searched], groups: Groups) -> Array:
     square = np.bincount(groups.of_line, likely * square, count) / np.bincount(groups.of_line, likely, count)
     snr = lines.snr[groups.best]
     width = np.maximum(lines.width[groups.best], (groups.energy / snr)**2)
-    errors: Array = np.sqrt(square + (DELAY_ERROR * width / snr)**2)
+    is_near = lines.snr >= lines.snr[best] - 1
+    reach = np.zeros(count)
+    np.maximum.at(reach, groups.of_line[is_near], np.abs(lines.delay - lines.delay[best])[is_near])
+    is_wider = reach * np.sqrt(snr) / ONE_LESS > WIDER * width
+    errors: Array = np.sqrt(square + (DELAY_ERROR * width / snr)**2 + np.where(is_wider, reach / 2, 0)**2)
     errors *= dm_per_delay(searches[0].head) / searches[0].head.seconds
     return errors
 
@@ -397,7 +406,9 @@ def flags_of(searches: Sequence[Searched], groups: Groups, table: Array) -> Arra
     delay = lines.delay[best]
     step = np.array([search.head.seconds for search in searches])[lines.search[best]]
     longest = max(np.inf if search.max_delay is None else search.longest for search in searches)
-    shortest = min(0 if search.min_delay is None else search.shortest for search in searches)
+    # a search without zero DM begins at a delay of 0, and finds wide pulses alone there
+    shortest = np.array([min(0 if other.min_delay is None else other.shortest for other in searches
+                             if other.zero_dm == search.zero_dm) for search in searches])[lines.search[best]]
     is_flagged = {
         "dm0": table["dm"] <= np.maximum(2 * table["dm_error"], table["dm"] * step / np.maximum(delay, step)),
         "edge": (delay > longest - step) | (shortest > 0) & (delay < shortest + step),

@@ -19,7 +19,7 @@ from operator import attrgetter
 
 import numpy as np
 
-from .bursts import bursts_of, level_for_bursts, quiet
+from .bursts import bursts_of, freed, level_for_bursts
 from .cluster import program_at, scripts
 from .headers import Header
 from .hunt_folds import folds_planned
@@ -74,8 +74,8 @@ def psr_hunt(words: Sequence[str]) -> None:
             return
         try:
             run_hunt(asked, folder, hunt, begun)
-        except Stopped:
-            say("psr_hunt", 0, "the same command goes on where this one stopped")
+        except Stopped as stopped:
+            stopped.advice = "; give the same command again to continue"
             raise
 
 
@@ -85,36 +85,38 @@ def parsed(words: Sequence[str]) -> argparse.Namespace:
     parser.add_argument("files", metavar="FILE", nargs="+",
                         help="the files of one observation, in order: DADA, SIGPROC filterbanks or PSRFITS")
     parser.add_argument("--dm", metavar=("LOW", "HIGH"), nargs=2, type=decimal, required=True,
-                        help="the dispersion measures that are searched, in pc/cm^3")
+                        help="the dispersion measures to search, in pc/cm^3")
     parser.add_argument("-o", "--output", metavar="FOLDER", dest="folder", required=True,
-                        help="the folder of all that comes out; the same command goes on where an earlier one stopped")
+                        help="the folder for all output; the same command continues a hunt that was stopped")
     parser.add_argument("--snr", metavar="S", type=decimal, default=USUAL_SNR,
-                        help=f"the true S/N from which on pulses are meant to be found ({USUAL_SNR})")
+                        help=f"the minimum true S/N of pulses that are to be found ({USUAL_SNR})")
     parser.add_argument("--widths", metavar="W", type=int,
-                        help="the widest pulse that is looked for, in spectra of FILE (those of 32 ms)")
+                        help="the widest pulse to look for, in spectra of FILE (those of 32 ms)")
     parser.add_argument("--mask", metavar="MASK", default="auto",
-                        help="channels to leave out, as psr_mask names them; auto: those that stand out; or none")
+                        help="channels to leave out: auto (those that look bad; the default), none, or a mask as "
+                             "psr_mask takes it")
     parser.add_argument("--clip", metavar="Z", type=decimal,
-                        help="leave out spectra whose sum is farther than Z deviations off: bursts of interference")
+                        help="leave out spectra whose sum over the band is more than Z deviations off: interference")
     parser.add_argument("--keep-bursts", action="store_true",
-                        help="search bursts of interference in parts of the band, too, which are replaced otherwise")
+                        help="also search bursts of interference in parts of the band, which are replaced otherwise")
     parser.add_argument("--cores", metavar="C", type=int, default=len(os.sched_getaffinity(0)),
-                        help="how many jobs run at a time (one for each core)")
+                        help="how many jobs run at a time (one on each core)")
     engine = parser.add_mutually_exclusive_group()
-    engine.add_argument("--slurm", action="store_true", help="the jobs run in arrays of Slurm")
-    engine.add_argument("--parallel", metavar="WORDS", help="GNU parallel runs the jobs, with these words of its own")
+    engine.add_argument("--slurm", action="store_true", help="run the jobs as arrays of Slurm")
+    engine.add_argument("--parallel", metavar="ARGUMENTS",
+                        help="run the jobs by GNU parallel, with these arguments of its own, as one argument")
     parser.add_argument("--periods", metavar=("LOW", "HIGH"), nargs=2, type=decimal,
-                        help="fold at these periods too, in seconds")
-    parser.add_argument("--keep", action="store_true", help="keep levelled files and the outputs of all jobs")
-    parser.add_argument("--dry-run", action="store_true", help="print the plan, and write nothing")
+                        help="also fold at these periods, in seconds")
+    parser.add_argument("--keep", action="store_true", help="keep levelled files, the jobs and their outputs")
+    parser.add_argument("--dry-run", action="store_true", help="print the plan, write nothing, and end")
     asked = parser.parse_args(words)
     for name, low, high in (("--dm", *asked.dm), ("--periods", *(asked.periods or (0, 1)))):
         if low >= high:
-            raise Refusal(WORDS, f"argument {name}: {low:g} is not below {high:g}")
+            raise Refusal(WORDS, f"argument {name}: LOW, {low:g}, is not below HIGH, {high:g}")
     for name, value in (("--snr", asked.snr), ("--widths", asked.widths), ("--cores", asked.cores),
                         ("--clip", asked.clip)):
         if value is not None and value <= 0:
-            raise Refusal(WORDS, f"argument {name}: it is not above 0")
+            raise Refusal(WORDS, f"argument {name}: it has to be above 0")
     return asked
 
 
@@ -122,7 +124,7 @@ def decimal(text: str) -> float:
     """A number that is not below 0, with up to six decimals."""
     value = scaled(text, 6)
     if value is None or value < 0:
-        raise argparse.ArgumentTypeError(f"{text} is no number from 0 on")
+        raise argparse.ArgumentTypeError(f"{text} is not a number of 0 or more (7, 7.5 or .5)")
     return value / 1e6
 
 
@@ -146,7 +148,7 @@ def hunt_of(asked: argparse.Namespace, inputs: Sequence[str], paths: Sequence[st
     head = look.head
     widest = asked.widths or power_above(USUAL_WIDEST / head.seconds)
     sought = Sought(asked.dm[0], asked.dm[1], widest, asked.snr)
-    levels, searches = planned(head, sought)
+    levels, searches = planned(head, sought, has_plain=True)
     folds = folds_planned(head, sought, (asked.periods[0], asked.periods[1]), searches) if asked.periods else None
     if folds is not None:
         searches += folds.passes
@@ -217,7 +219,7 @@ def hunt_folder(path: str) -> Iterator[str]:
             # a hunt that was stopped before it had a plan left this at most
             remove(os.path.join(folder, CONVERTED))
             if os.listdir(folder):
-                raise Refusal(OUTPUT, f"{path} is there already, and no hunt: name a new folder")
+                raise Refusal(OUTPUT, f"{path} exists, and is not the folder of a hunt: give a new one")
         yield folder
     finally:
         os.close(place)
@@ -229,9 +231,10 @@ def begun_hunt(asked: argparse.Namespace, folder: str, paths: Sequence[str], con
     if os.path.exists(os.path.join(folder, NAME)):
         hunt = read_manifest(folder)
         if hunt.arguments != meaning(asked):
-            raise Refusal(OUTPUT, f"{asked.folder} has another hunt: psr_hunt {shlex.join(hunt.arguments)}")
+            raise Refusal(OUTPUT, f"{asked.folder} is the folder of another hunt: psr_hunt "
+                                  f"{shlex.join(hunt.arguments)}; give a new one")
         if hunt.states != tuple(state_of(path) for path in paths):
-            raise Refusal(OUTPUT, f"{asked.folder} has a hunt of files that have changed since: name a new folder")
+            raise Refusal(OUTPUT, f"the files of the hunt in {asked.folder} have changed since: give a new folder")
         return hunt
     own = list(paths)
     if converter is not None:
@@ -292,7 +295,7 @@ class Running:
         """The jobs of the passes over a level, which is freed of bursts and measured first."""
         level = next(one for one in self.hunt.levels if one.path == path)
         if level.mean is None:
-            quiet(self.folder, self.hunt, level)
+            freed(self.folder, self.hunt, level)
             self.hunt = with_noise(self.hunt, measured(self.folder, self.hunt, level), self.head)
             write_manifest(self.folder, self.hunt)
         return [task for search in self.hunt.searches if search.level == path and not self.is_joined(search.name)
@@ -390,7 +393,7 @@ def write_commands(folder: str, hunt: Hunt, head: Header) -> None:
         converter = converter_of(hunt.inputs)
         assert converter is not None
         lines.append(f"[ -e {CONVERTED} ] || {shlex.join(conversion(converter, hunt.inputs, CONVERTED))}")
-    lines += [level.command for level in hunt.levels]
+    lines += ["mkdir -p levels", *(level.command for level in hunt.levels)]
     # what psr_hunt found in the levels, as hunt.json has it
     lines.append(f"PYTHONPATH={shlex.quote(companion(''))} {shlex.quote(sys.executable)} -m malletbean.bursts .")
     for search in hunt.searches:
@@ -408,7 +411,7 @@ def failed(running: Running, failures: Sequence[Failure]) -> Refusal:
         say("psr_hunt", 0, failure_line(failure))
     for failure in failures:
         running.note(failure.task, 0.0, 1)
-    return Refusal(FAILED, f"{failure_line(failures[-1])}; mend the cause, then the same command goes on")
+    return Refusal(FAILED, f"{failure_line(failures[-1])}; mend the cause, and give the same command again")
 
 
 def failure_line(failure: Failure) -> str:
@@ -443,8 +446,7 @@ def count_lines(running: Running) -> int:
 
 def clear(running: Running) -> None:
     """Removes levels, pieces, and the observation that was made of other files."""
-    for level in running.hunt.levels:
-        remove(os.path.join(running.folder, level.path))
+    shutil.rmtree(os.path.join(running.folder, "levels"), ignore_errors=True)
     for search in running.hunt.searches:
         place = searches_at(running.folder, search)
         for name in os.listdir(place):

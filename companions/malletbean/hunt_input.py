@@ -3,6 +3,7 @@ from __future__ import annotations
 
 import io
 import os
+import re
 import subprocess
 import sys
 import tempfile
@@ -45,14 +46,14 @@ def converter_of(paths: Sequence[str]) -> str | None:
     """The companion that turns these files into a DADA file; None if they are ones that a search takes."""
     found = [converter_of_one(path) for path in paths]
     if len(set(found)) > 1:
-        raise Refusal(HEADER, f"{paths[0]} and the files after it are of several forms: give those of one observation")
+        raise Refusal(HEADER, f"the files have different formats, and are not of one observation: {', '.join(paths)}")
     return found[0]
 
 
 def converter_of_one(path: str) -> str | None:
     """The companion that turns one file."""
     if os.path.exists(path) and not os.path.isfile(path):
-        raise Refusal(READ, f"can't read {path}: it has to be a file")
+        raise Refusal(READ, f"can't read {path}: it is no regular file")
     front = bytes_of(path, 16)
     for place, mark, name in CONVERTERS:
         if front[place:].startswith(mark):
@@ -62,7 +63,7 @@ def converter_of_one(path: str) -> str | None:
         if not fields.keys() & {"HDR_SIZE", "HDR_VERSION", "NCHAN", "NBIT"}:
             raise Refusal(HEADER, f"header of {path} refused: Missing NCHAN")
     except Refusal as refusal:
-        line = f"no SIGPROC filterbank or PSRFITS, and as a DADA file: {refusal.line}"
+        line = f"{path} is no SIGPROC filterbank, PSRFITS or DADA file: {refusal.line}"
         raise Refusal(refusal.status, line) from refusal
     is_searched = all(fields.get(keyword, taken[0]) in taken for keyword, taken in SEARCHED.items())
     channels = scaled(fields.get("NCHAN", "0"), 0) or 0
@@ -136,8 +137,13 @@ def tried_fits(paths: Sequence[str], output: str) -> int:
 def planned_header(converter: str, paths: Sequence[str], mask: str | None) -> Look:
     """A look at a part of the samples, with the header that the DADA file of these files will have, about."""
     with tempfile.TemporaryDirectory(prefix="psr_hunt.") as folder:
-        samples, spectra = tried(converter, paths, folder)
-        look = looked_at(samples, mask)
+        try:
+            samples, spectra = tried(converter, paths, folder)
+            look = looked_at(samples, mask)
+        except Refusal as refusal:
+            # what is cut out of the first file has its name
+            line = re.sub(rf"{re.escape(folder)}/front(\.dada)?", paths[0].replace("\\", r"\\"), refusal.line)
+            raise Refusal(refusal.status, line) from refusal
         return replace(look, head=replace(look.head, data_bytes=spectra * look.head.spectrum_bytes))
 
 

@@ -43,8 +43,10 @@ NOISE_LINES = 0.02
 JUDGED_DELAYS = 40
 # levelled stretches: so many seconds, but at least so many times as long as a pulse in a channel, and so many spectra
 LEVEL_SECONDS, TIMES_PULSE, LEAST_STRETCH, MOST_STRETCH = 0.5, 16, 128, 2**20
-# pulses that a zero-DM filter takes away sweep the band in less than so many of their widths
-SHORT_SWEEP = 6
+# pulses that a zero-DM filter takes away sweep the band in less than so many of their widths; the drift of the level
+# that is made without it is followed over so many times as many spectra as its widest box has, and stretches are four
+# times as long as that
+SHORT_SWEEP, TIMES_BOX = 6, 16
 
 
 @dataclass(frozen=True)
@@ -135,6 +137,21 @@ def ranges(head: Header, sought: Sought) -> list[Range]:
     return found
 
 
+def plain_range(head: Header, sought: Sought) -> Range | None:
+    """The pass without zero DM, for pulses whose sweep is not above a few of their widths; None if there are none.
+
+    It begins at a delay of 0, so that interference of the whole band is found at its own.
+    """
+    average = min(MOST_AVERAGED, power_above(sought.widest / WIDEST_BOX))
+    level = level_header(head, average)
+    longest = SHORT_SWEEP * sought.widest
+    if head.delay(sought.dm_low) >= longest or level.spectra < LEAST_SPECTRA:
+        return None
+    last = min(math.ceil(min(longest, head.delay(sought.dm_high)) / average), level.spectra - 1, GREATEST_DELAY)
+    widest = min(WIDEST_BOX, power_above(sought.widest / average))
+    return Range(average, 0, last, quiet_box(level, 0, last, widest, sought.snr), zero_dm=False)
+
+
 def near_delay(head: Header, first: int, last: int) -> int:
     """Up to which delay wide boxes are searched. No pass is made for a few delays alone."""
     if 2 * last <= 3 * head.channels:
@@ -196,20 +213,27 @@ def level_name(average: int, zero_dm: bool) -> str:
     return f"k{average}" if zero_dm else f"k{average}-plain"
 
 
-def planned(head: Header, sought: Sought) -> tuple[tuple[LevelFile, ...], tuple[SearchPass, ...]]:
+def planned(head: Header, sought: Sought, has_plain: bool = False) -> tuple[tuple[LevelFile, ...],
+                                                                          tuple[SearchPass, ...]]:
     """The levels, still without their commands, and the passes over an observation whose header counts all its
-    spectra."""
+    spectra; `has_plain` asks for the pass without zero DM too."""
     if sought.dm_high > greatest_dm(head):
         raise Refusal(WORDS, f"--dm: {sought.dm_high:g} is above {greatest_dm(head):.0f}, the greatest that is reached "
                              f"by {MOST_AVERAGED} averaged spectra and delays to {GREATEST_DELAY}")
     if head.delay(sought.dm_low) >= head.spectra:
         raise Refusal(WORDS, f"--dm: a pulse of {sought.dm_low:g} takes longer across the band than the observation")
     passes = ranges(head, sought)
+    plain = plain_range(head, sought) if has_plain else None
+    if plain is not None:
+        passes.append(plain)
     levels = []
     for average, zero_dm in dict.fromkeys((one.average, one.zero_dm) for one in passes):
         level, path = level_header(head, average), f"levels/{level_name(average, zero_dm)}.dada"
         mine = [one for one in passes if (one.average, one.zero_dm) == (average, zero_dm)]
-        stretch = stretch_of(level, max(one.max_delay for one in mine), max(one.widths for one in mine))
+        widths = max(one.widths for one in mine)
+        stretch = stretch_of(level, max(one.max_delay for one in mine), widths)
+        if not zero_dm:
+            stretch = min(MOST_STRETCH, power_above(4 * max(TIMES_BOX * widths, LEVEL_SECONDS / level.seconds)))
         levels.append(LevelFile(average, zero_dm, path, "", stretch, level.spectra))
     return tuple(levels), tuple(pass_of(head, sought, one, passes) for one in passes)
 

@@ -66,7 +66,7 @@ def level_words(folder: str, hunt: Hunt, level: LevelFile) -> list[str]:
     words = ["--fast", "--most", str(LEVEL_MOST), "--average", str(level.average), "--spectra", str(level.stretch)]
     if hunt.mask != "none":
         words += ["--mask", hunt.mask]
-    if hunt.clip is not None:
+    if hunt.clip is not None and level.zero_dm:
         words += ["--clip", f"{hunt.clip:g}"]
     if level.zero_dm:
         words.append("--zero-dm")

@@ -13,7 +13,6 @@ COMMANDS = {
     "psr_fil": "fil.psr_fil",
     "psr_fits": "fits.psr_fits",
     "psr_hunt": "hunt.psr_hunt",
-    "psr_level": "level.psr_level",
     "psr_look": "look.psr_look",
     "psr_plan": "cluster.plan",
     "psr_plot": "plot.psr_plot",

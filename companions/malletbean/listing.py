@@ -15,6 +15,7 @@ from .grouping import DAY, DAY_ZERO, Searched, candidate_table
 from .headers import Header, header
 from .manifest import Hunt, SearchPass, read_manifest
 from .output import whole_file
+from .presto import inf_text
 from .refusal import TEXT, Refusal
 from .texts import read
 
@@ -27,7 +28,7 @@ JSON_VERSION = 1
 
 
 def write_candidates(folder: str) -> Array:
-    """Writes the candidates of the hunt in a folder as candidates.csv, .json, .cand and .singlepulse there."""
+    """Writes the candidates of the hunt in a folder as candidates.csv, .json, .cand, and .singlepulse with .inf."""
     hunt = read_manifest(folder)
     searches = searches_of(folder, hunt)
     table = candidates_of(folder, hunt, searches)
@@ -36,14 +37,19 @@ def write_candidates(folder: str) -> Array:
         with whole_file(os.path.join(folder, f"candidates{suffix}")) as name:
             with open(name, "w", encoding="ascii") as file:
                 write(file, table, finest)
+    # PRESTO looks for it beside candidates.singlepulse
+    with whole_file(os.path.join(folder, "candidates.inf")) as name, open(name, "w", encoding="ascii",
+                                                                          errors="replace") as file:
+        file.write(inf_text(finest, 0, finest.spectra, "candidates", "Candidates of psr_hunt, whose DMs differ"))
     return table
 
 
 def candidates_of(folder: str, hunt: Hunt, searches: Sequence[Searched]) -> Array:
     """The candidates of a hunt, the strongest first, with all their flags."""
     table = candidate_table(searches)
-    # lines of wide boxes have a greater ratio than their true S/N
-    table = table[table["snr"] >= hunt.snr]
+    # lines of wide boxes have a greater ratio than their true S/N; the pass without zero DM begins at a delay of 0
+    lowest = min([one.dm_low for one in hunt.searches if one.zero_dm] or [one.dm_low for one in hunt.searches])
+    table = table[(table["snr"] >= hunt.snr) & (table["dm"] >= lowest)]
     table["flag"] = with_flag(table["flag"], are_narrow(folder, hunt, table), "narrow")
     return table
 

@@ -97,7 +97,7 @@ def psr_look(words: Sequence[str]) -> None:
 
 def parsed(words: Sequence[str]) -> argparse.Namespace:
     """The words of the command."""
-    parser = Words(prog="psr_look", description="Says what a file holds, and with which commands one may search it.")
+    parser = Words(prog="psr_look", description="Examines a file, and prints the commands that search it.")
     parser.add_argument("file", metavar="FILE", help="a DADA file of filterbank samples, or a pipe")
     parser.add_argument("dm", metavar="DM", nargs="?", type=dispersion_measure, help="a dispersion measure in pc/cm^3")
     parser.add_argument("--megabytes", metavar="N", type=positive, default=64.0,

@@ -2,20 +2,11 @@
 from __future__ import annotations
 
 import os
-import sys
 from collections.abc import Iterator
 from contextlib import contextmanager, suppress
 from typing import BinaryIO
 
 from .refusal import OUTPUT, Refusal
-
-
-def to_standard_output(some: bytes) -> None:
-    """Writes all of some bytes to standard output, also where Python doesn't buffer it."""
-    view = memoryview(some)
-    while view:
-        view = view[sys.stdout.buffer.write(view):]
-    sys.stdout.buffer.flush()
 
 
 @contextmanager
@@ -61,4 +52,4 @@ def written_beside(place: str, path: str) -> Iterator[str]:
 
 def is_there(path: str) -> Refusal:
     """The refusal of a new file that isn't new."""
-    return Refusal(OUTPUT, f"can't write {path}: it is there already")
+    return Refusal(OUTPUT, f"can't write {path}: it exists already")

@@ -24,6 +24,8 @@ WIDTHS_OFF, LEAST_OFF, DELAYS_TRIED = 6, 12, 61
 # rows of the waterfall, and columns of all pictures of time
 BANDS, COLUMNS = 64, 160
 FOUND, CURVE, FLAGGED = "tab:blue", "tab:orange", "tab:red"
+# how high a panel with a legend is, in times of its highest point
+LEGEND_ROOM = 1.25
 # what is drawn of many lines beside their candidates
 LINES_DRAWN = 4000
 
@@ -181,9 +183,11 @@ def draw_curve(panel: Axes, around: Near, row: np.void, head: Header) -> None:
     panel.plot(np.interp(fine, around.delays, dms), row["snr"] * curve_at(fine - int(row["delay"]), around.width),
                color=CURVE, linewidth=1.6, label="a pulse of this width")
     panel.axvline(float(row["dm"]), color="tab:grey", linewidth=0.6)
-    panel.set(xlim=(dms[0], dms[-1]), ylim=(min(0, float(around.ratios.min())), None), ylabel="S/N",
+    # the legend stands in the room above the highest point
+    highest = LEGEND_ROOM * max(float(around.ratios.max()), float(row["snr"]))
+    panel.set(xlim=(dms[0], dms[-1]), ylim=(min(0, float(around.ratios.min())), highest), ylabel="S/N",
               title="S/N against DM / (pc/cm³)")
-    panel.legend(fontsize=7, loc="upper right", framealpha=0.6)
+    panel.legend(fontsize=7, loc="upper center", ncols=2, frameon=False)
 
 
 def draw_bow(panel: Axes, around: Near, row: np.void, head: Header, milliseconds: Array) -> None:
@@ -232,7 +236,8 @@ def overview(lines: Array, table: Array) -> Figure:
               title="DM against time: circles grow with S/N")
     marks = [Line2D([], [], marker="o", linestyle="", color=color, label=label, markersize=size)
              for color, label, size in ((FOUND, "candidate", 5), (FLAGGED, "with a flag", 5), ("0.75", "lines", 2))]
-    times.legend(handles=marks, fontsize=8, loc="upper right", framealpha=0.8)
+    times.legend(handles=marks, fontsize=8, loc="lower right", bbox_to_anchor=(1, 1), ncols=3, frameon=False,
+                 borderaxespad=0.2)
     for panel in (ratios, numbers, times):
         panel.tick_params(labelsize=8)
         panel.title.set_fontsize(10)

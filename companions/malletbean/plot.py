@@ -75,7 +75,7 @@ def finish(figure: Figure, asked: argparse.Namespace) -> None:
 
 def parsed(words: Sequence[str]) -> argparse.Namespace:
     """The words of the command."""
-    parser = Words(prog="psr_plot", description="Draws the candidates of a text of psr_search, and beams side by side.")
+    parser = Words(prog="psr_plot", description="Draws the output of a search; beams side by side.")
     add_search_words(parser)
     parser.add_argument("-o", "--output", metavar="PICTURE", help="a new picture: .png, .svg or .pdf")
     parser.add_argument("--show", action="store_true", help="a window with the picture")
@@ -83,10 +83,10 @@ def parsed(words: Sequence[str]) -> argparse.Namespace:
     parser.add_argument("--next", metavar="FILE", nargs="+", default=[], help="the observation's files behind FILE")
     asked = parser.parse_args(words)
     if asked.output is None and not asked.show:
-        raise Refusal(WORDS, "neither -o PICTURE nor --show")
+        raise Refusal(WORDS, "give -o PICTURE or --show")
     check_output(asked, SUFFIXES)
     if asked.fold not in (None, "best") and not asked.fold.isdecimal():
-        raise Refusal(WORDS, f"argument --fold: {asked.fold} is neither a number nor best")
+        raise Refusal(WORDS, f"argument --fold: {asked.fold} is neither a whole number nor best")
     return asked
 
 
@@ -128,7 +128,7 @@ def new_figure(is_shown: bool) -> Figure:
     from matplotlib import pyplot
     figure = pyplot.figure(layout="constrained")
     if matplotlib.get_backend().lower() == "agg":
-        raise Refusal(OUTPUT, "no window can be opened here: take -o PICTURE")
+        raise Refusal(OUTPUT, "no window can be opened here: give -o PICTURE")
     return figure
 
 

@@ -54,7 +54,7 @@ def run(name: str, program: Callable[[Sequence[str]], None]) -> int:
             program(sys.argv[1:])
             sys.stdout.flush()
     except Stopped as stopped:
-        say(name, 0, f"stopped by {stopped.signal.name}")
+        say(name, 0, f"stopped by {stopped.signal.name}{stopped.advice}")
         # who waits for the program has to see that a signal ended it
         signal.signal(stopped.signal, signal.SIG_DFL)
         os.kill(os.getpid(), stopped.signal)
@@ -78,6 +78,8 @@ class Stopped(BaseException):
     def __init__(self, number: int) -> None:
         super().__init__(number)
         self.signal = signal.Signals(number)
+        # what follows the line that says so
+        self.advice = ""
 
 
 @contextmanager
@@ -112,11 +114,12 @@ def add_search_words(words: Words) -> None:
     words.add_argument("file", metavar="FILE", help="the first file of the observation that was searched")
     words.add_argument("mean", metavar="MEAN", type=noise_value, help="the mean that the search was given")
     words.add_argument("deviation", metavar="SD", type=noise_value, help="the deviation that the search was given")
-    words.add_argument("text", metavar="TEXT", help="the text of the search")
-    words.add_argument("--obs", metavar="K", type=int, help="which observation of the text, where it has several")
-    words.add_argument("--beam", metavar="K", type=int, help="which beam of a text of psr_beams")
+    words.add_argument("text", metavar="TEXT", help="the output of the search")
+    words.add_argument("--obs", metavar="K", type=int, help="which observation, if the output has several")
+    words.add_argument("--beam", metavar="K", type=int, help="which beam of psr_beams")
     words.add_argument("--mask", metavar="MASK", default="none", help="the mask that psr_mask was given")
-    words.add_argument("--part", action="store_true", help="the text is of a part, whose last line counts those before")
+    words.add_argument("--part", action="store_true",
+                       help="a last part of psr_part: its END line counts the pulses of earlier parts too")
 
 
 def check_output(words: argparse.Namespace, suffixes: tuple[str, ...]) -> None:
@@ -134,7 +137,7 @@ def noise_value(text: str) -> float:
     """A mean or a deviation of a sample, with three decimals."""
     value = scaled(text, 3)
     if value is None or not 0 <= value <= 200_000_000:
-        raise argparse.ArgumentTypeError(f"{text} is no number from 0 to 200000")
+        raise argparse.ArgumentTypeError(f"{text} is not a number from 0 to 200000")
     return value / 1000
 
 

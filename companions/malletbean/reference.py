@@ -39,6 +39,11 @@ class Option:
         return self.values == "flag"
 
     @property
+    def is_number(self) -> bool:
+        """Whether its value is a number."""
+        return bool(self.choices or self.limits)
+
+    @property
     def is_required(self) -> bool:
         """Whether it has to be given."""
         return self.default == "required"

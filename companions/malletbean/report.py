@@ -125,7 +125,8 @@ def observation_lines(hunt: Hunt) -> list[tuple[str, str]]:
                  f"{'highest' if sky.bw < 0 else 'lowest'} first"),
         ("Samples", f"{sky.nbit} bits every {sky.tsamp * 1e6:g} us, polarisations: {sky.npol}"),
         ("Length", f"{sky.spectra} spectra, {sky.spectra * sky.tsamp:.3f} s"),
-        ("Mask", hunt.mask), ("Zero DM", "the mean of each spectrum was taken out" if hunt.zero_dm else "no"),
+        ("Mask", hunt.mask), ("Zero DM", "the mean of each spectrum was taken out" + (
+            "" if hunt.zero_dm else ", except in levels whose searches say no")),
         ("Clip", "no" if hunt.clip is None else f"spectra farther than {hunt.clip:g} deviations off"),
         ("Bursts", "not looked for" if hunt.bursts is None else f"{len(hunt.bursts)} bursts of interference in parts of "
                                                                 "the band were replaced"),

@@ -12,17 +12,17 @@ from matplotlib.figure import Figure  # type: ignore[import]
 
 from .arrays import Array
 from .candidates import cells_by_delay
-from .grouping import DAY
 from .headers import Header
 from .manifest import read_manifest
 from .masks import usual_distance
 from .number import scaled
 from .output import whole_file
 from .paths import delay_paths
+from .presto import even, inf_text
 from .program import Words
 from .refusal import WORDS, Refusal
 from .samples import SAMPLES_AT_A_TIME, Samples, path_sums
-from .sigproc import SERIES, header_bytes, mjd_parts
+from .sigproc import SERIES, header_bytes
 
 # of a fold: bins of a turn, parts of the time and of the band
 BINS, PARTS, BANDS = 128, 64, 32
@@ -36,7 +36,7 @@ def psr_series(words: Sequence[str]) -> None:
     for delay, values in zip(delays, series_of(samples, delays)):
         name = series_name(asked.output, samples.header, delay)
         write_series(samples, delay, values, name)
-        print(f"psr_series: {name}.dat, .inf and .tim: {len(values)} values of DM {samples.header.dm(delay):.3f}")
+        print(f"psr_series: {name}.dat, .inf and .tim: {even(len(values))} values of DM {samples.header.dm(delay):.3f}")
         if asked.fold is not None:
             with whole_file(f"{name}_fold.png") as path:
                 fold_picture(samples, fold_of(samples, delay, asked.fold)).savefig(path, format="png", dpi=110)
@@ -51,13 +51,13 @@ def parsed(words: Sequence[str]) -> argparse.Namespace:
     parser.add_argument("--delay", metavar="D", nargs="+", type=int, default=[],
                         help="delays across the band in spectra, as psr_search prints them")
     parser.add_argument("-o", "--output", metavar="NAME", required=True,
-                        help="files are NAME_DM12.345.dat, .inf, and .tim; those that are there are written over")
-    parser.add_argument("--fold", metavar="SECONDS", type=period, help="a picture of the fold at this period as well")
+                        help="the files are NAME_DM12.345.dat, .inf and .tim; existing ones are replaced")
+    parser.add_argument("--fold", metavar="SECONDS", type=period, help="also draw a fold at this period")
     parser.add_argument("--next", metavar="FILE", nargs="+", default=[], help="the observation's files behind FILE")
     parser.add_argument("--mask", metavar="MASK", default="none", help="channels to leave out, as psr_mask names them")
     asked = parser.parse_args(words)
     if not asked.dms and not asked.delay:
-        raise Refusal(WORDS, "neither a DM nor --delay")
+        raise Refusal(WORDS, "give a DM or --delay")
     return asked
 
 
@@ -65,7 +65,7 @@ def measure(text: str) -> float:
     """A dispersion measure."""
     value = scaled(text, 6)
     if value is None or value < 0:
-        raise argparse.ArgumentTypeError(f"{text} is no dispersion measure")
+        raise argparse.ArgumentTypeError(f"{text} is not a dispersion measure (7, 7.5 or .5)")
     return value / 10**6
 
 
@@ -73,7 +73,7 @@ def period(text: str) -> float:
     """A period in seconds, with twelve decimals."""
     value = scaled(text, 12)
     if value is None or value <= 0:
-        raise argparse.ArgumentTypeError(f"{text} is no period")
+        raise argparse.ArgumentTypeError(f"{text} is not a period in seconds")
     return value / 10**12
 
 
@@ -118,13 +118,15 @@ def series_of(samples: Samples, delays: Sequence[int]) -> list[Array]:
 
 
 def write_series(samples: Samples, delay: int, values: Array, name: str) -> None:
-    """Writes a series as NAME.dat with NAME.inf, and as NAME.tim."""
-    head = samples.header
+    """Writes a series as NAME.dat with NAME.inf, and as NAME.tim: an even number of values."""
+    head, values = samples.header, values[:even(len(values))]
     dm = head.dm(delay)
     top, foot = head.edges_khz[0] / 1000, head.edges_khz[-1] / 1000
     tim = header_bytes(head, 0, {"data_type": SERIES, "refdm": float(dm), "fch1": top, "foff": foot - top, "nchans": 1,
                                  "nbits": 32, "nifs": 1})
-    for suffix, data in ((".dat", values.tobytes()), (".inf", inf_text(head, dm, len(values), name).encode()),
+    notes = f"Each value is the mean of the samples along the path of DM {dm:.3f}, by the time at the top of the band"
+    inf = inf_text(head, dm, len(values), os.path.basename(name), notes)
+    for suffix, data in ((".dat", values.tobytes()), (".inf", inf.encode("ascii", "replace")),
                          (".tim", tim + values.tobytes())):
         with whole_file(name + suffix) as path, open(path, "wb") as file:
             file.write(data)
@@ -143,45 +145,11 @@ def write_candidate_series(folder: str, table: Array, most: int) -> list[str]:
         samples = Samples([os.path.join(folder, level.path)], hunt.mask)
         delays = [*dict.fromkeys(rows["delay"].tolist())]
         for delay, values in zip(delays, series_of(samples, delays)):
-            name = series_name(os.path.join(folder, f"averaged{level.average}"), samples.header, delay)
+            kind = "" if level.zero_dm else "-plain"
+            name = series_name(os.path.join(folder, f"averaged{level.average}{kind}"), samples.header, delay)
             write_series(samples, delay, values, name)
             names.append(name)
     return names
-
-
-def inf_text(head: Header, dm: float, count: int, name: str) -> str:
-    """What PRESTO has to know of a series: its lines, in its order."""
-    top, foot = head.edges_khz[0] / 1000, head.edges_khz[-1] / 1000
-    channel = (top - foot) / head.channels
-    start = mjd_parts(head, 0)
-    day, nanoseconds = start or (0, 0)
-    masked = f"; masked: {len(head.masked)} channels" if head.masked else ""
-    lines = {
-        "Data file name without suffix": os.path.basename(name),
-        "Telescope used": head.fields.get("TELESCOPE", "Unknown"),
-        "Instrument used": head.fields.get("INSTRUMENT", "Unknown"),
-        "Object being observed": head.fields.get("SOURCE", "Unknown"),
-        "J2000 Right Ascension (hh:mm:ss.ssss)": head.fields.get("RA", "00:00:00.0000"),
-        "J2000 Declination     (dd:mm:ss.ssss)": head.fields.get("DEC", "00:00:00.0000"),
-        "Data observed by": head.fields.get("OBSERVER", "Unknown"),
-        "Epoch of observation (MJD)": f"{day}.{nanoseconds * 10**15 // DAY:015d}",
-        "Barycentered?           (1=yes, 0=no)": int(head.fields.get("BARYCENTRIC", "0") not in ("0", "0.0")),
-        "Number of bins in the time series": count,
-        "Width of each time series bin (sec)": f"{head.seconds:.15g}",
-        "Any breaks in the data? (1=yes, 0=no)": 0,
-        "Type of observation (EM band)": "Radio",
-        "Beam diameter (arcsec)": 0,
-        "Dispersion measure (cm-3 pc)": f"{dm:.12g}",
-        "Central freq of low channel (MHz)": f"{foot + channel / 2:.12g}",
-        "Total bandwidth (MHz)": f"{top - foot:.12g}",
-        "Number of channels": head.channels,
-        "Channel bandwidth (MHz)": f"{channel:.12g}",
-        "Data analyzed by": "Malletbean",
-    }
-    known = "" if start else "; the epoch is not known"
-    notes = f"Each value is the mean of the samples along the path of DM {dm:.3f}, by the time at the top of the band"
-    text = "".join(f" {keyword:<38} =  {value}\n" for keyword, value in lines.items())
-    return f"{text} Any additional notes:\n    {notes}{masked}{known}.\n\n"
 
 
 @dataclass(frozen=True)

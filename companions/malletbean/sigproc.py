@@ -8,8 +8,9 @@ from .filterbank import TELESCOPES
 from .grouping import DAY, DAY_ZERO
 from .headers import Header
 
-# what kinds of data there are
+# what kinds of data there are, and how long a word is at most
 FILTERBANK, SERIES = 1, 2
+MOST_BYTES = 80
 
 
 def header_bytes(head: Header, first: int, more: Mapping[str, int | float]) -> bytes:
@@ -41,8 +42,8 @@ def entry(keyword: str, value: int | float | str) -> bytes:
 
 
 def word(text: str) -> bytes:
-    """A word: how many bytes it has, and these."""
-    some = text.encode("ascii", "replace")
+    """A word: how many bytes it has, and these. SIGPROC takes 1 to 80."""
+    some = (text or "unknown").encode("ascii", "replace")[:MOST_BYTES]
     return struct.pack("<i", len(some)) + some
 
 

@@ -86,7 +86,8 @@ def found_in(path: str, text: bytes, is_part: bool) -> Found:
         while marks and marks[-1][1] != b"CHECK":
             marks.pop()
         if not marks:
-            raise refused(path, "it has no END line, so the search did not end or the text was cut")
+            raise refused(path, "it has no END line and no CHECK line, so the search did not end, or its output was "
+                                "cut")
         text = text[:marks[-1].end()]
     last = end or marks[-1]
     first_fold = text.find(b"FOLD ")
@@ -97,7 +98,7 @@ def found_in(path: str, text: bytes, is_part: bool) -> Found:
     counted, spectra = (int(end[1]), int(end[3])) if end else (int(last[3]), int(last[2]))
     before = check_marks(path, marks, pieces, end)
     if before < 0 or (before > 0 and not marks and not is_part) or len(folds) != (int(end[2]) if end else 0):
-        hint = "; of a last part of psr_part say --part" if before > 0 and end else ""
+        hint = "; of a last part of psr_part give --part" if before > 0 and end else ""
         raise refused(path, f"it has {len(pulses)} PULSE and {len(folds)} FOLD lines, and its last line counts others"
                             f"{hint}")
     many = np.array([(int(mark[2]), int(mark[3])) for mark in marks if mark[1] == b"MANY"], MANY)

@@ -230,13 +230,14 @@ def value_fault(option: Option, value: str, others: dict[str, tuple[str, str]]) 
     name = option.name
     if value == "":
         return f"{name} has an empty value: it takes {option.values}"
+    if not option.is_number:
+        return None
     number = option.value_of(value)
     if number is None:
         return f"{name} is {value}{form_hint(option, value)}: it takes {option.values}"
     if option.choices:
         return None if value.lstrip("0") in option.choices else f"{name} is {value}, and takes {option.values}"
-    if option.limits is None:
-        return None
+    assert option.limits is not None
     least, greatest = option.limits
     if isinstance(greatest, str):
         text, told = others.get(f"--{greatest}", ("", ""))
@@ -327,7 +328,7 @@ def check_new(given: Given) -> None:
     """Whether a file of psr_make can be made."""
     for name in given.names:
         if os.path.lexists(name):
-            raise Wrong(f"{name} is there already, and no file is overwritten: name another, or remove it")
+            raise Wrong(f"{name} exists already, and no file is overwritten: name another, or remove it")
 
 
 def swapped(program: str, given: Given, name: str) -> str:
@@ -404,8 +405,9 @@ def check_headers(program: str, given: Given) -> None:
             else:
                 heads.append(headers.header(name))
                 check_next(program, name, heads)
-        if "MASK" in given.leading:
-            masks.masked_channels(given.leading["MASK"], heads[0].channels)
+        mask = given.leading.get("MASK", given.options.get("--mask"))
+        if mask is not None:
+            masks.masked_channels(mask, heads[0].channels)
     except Refusal as refusal:
         raise Wrong(refusal.line) from refusal
 

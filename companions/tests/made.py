@@ -1,16 +1,17 @@
 """Observations as `psr_make` makes them, by numpy."""
 from __future__ import annotations
 
-import io
-from contextlib import redirect_stdout
+import shutil
+import subprocess
 from pathlib import Path
 
 import numpy as np
+import pytest
 
 from malletbean.headers import header
-from malletbean.level import psr_level
 from malletbean.paths import delay_paths
 
+needs_level = pytest.mark.skipif(shutil.which("psr_level") is None, reason="psr_level is not on the PATH")
 HEADER = """HDR_VERSION 1.0
 HDR_SIZE 4096
 INSTRUMENT psr_make
@@ -65,8 +66,4 @@ def level(path: Path | str, out: Path | str, *words: str) -> str:
 
 def levelled(*words: str) -> bytes:
     """What psr_level writes."""
-    written = io.BytesIO()
-    with redirect_stdout(io.TextIOWrapper(written)) as text:
-        psr_level(words)
-        text.flush()
-        return written.getvalue()
+    return subprocess.run(["psr_level", *words], stdout=subprocess.PIPE, check=True).stdout

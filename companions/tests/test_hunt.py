@@ -20,9 +20,9 @@ from malletbean.hunt import FAILED, psr_hunt
 from malletbean.manifest import SearchPass, read_manifest
 from malletbean.program import run
 
-PROGRAMS = ("psr_search", "psr_part")
-needs_search = pytest.mark.skipif(None in map(shutil.which, PROGRAMS), reason="psr_search and psr_part are not on the "
-                                                                              "PATH")
+PROGRAMS = ("psr_level", "psr_search", "psr_part")
+needs_search = pytest.mark.skipif(None in map(shutil.which, PROGRAMS), reason="psr_level, psr_search and psr_part are "
+                                                                              "not on the PATH")
 DM = 4.878
 STAND_IN = """#!/bin/bash
 # a psr_part that does what its first line says, but for the words that are judged
@@ -41,8 +41,7 @@ def observation(tmp_path_factory: pytest.TempPathFactory) -> str:
 
 @pytest.fixture(autouse=True)
 def programs(request: pytest.FixtureRequest, monkeypatch: pytest.MonkeyPatch) -> None:
-    """psr_level on the PATH, three pieces of each pass, and but for one test no report, which takes its time."""
-    monkeypatch.setenv("PATH", f"{os.environ['PATH']}:{HERE.parent}")
+    """Three pieces of each pass, and but for one test no report, which takes its time."""
     monkeypatch.setattr(hunt_pieces, "piece_count", lambda *_: 3)
     if "report" not in request.node.name:
         monkeypatch.setattr(hunt, "write_report", lambda *_, **__: None)
@@ -125,7 +124,7 @@ def test_a_job_that_fails(observation: str, tmp_path: Path, monkeypatch: pytest.
     monkeypatch.setenv("PSR_PART", stand_in(tmp_path, 'case $2 in *k4*682.check) echo no memory >&2; exit 5;; esac'))
     assert hunted(monkeypatch, *words, str(folder), "--cores", "2") == FAILED
     said = capsys.readouterr().err
-    assert "status 5: no memory; its command: " in said and "the same command goes on" in said
+    assert "status 5: no memory; its command: " in said and "give the same command again" in said
     command = re.search(r"its command: (.*);", said)
     assert command and subprocess.run(["bash", "-c", command[1]], capture_output=True).returncode == 5
     # what is there already stays
@@ -193,7 +192,7 @@ def test_stopped_and_gone_on_with(observation: str, tmp_path: Path, monkeypatch:
     said = process.communicate()[1]
     assert process.returncode == -number
     if number != signal.SIGKILL:
-        assert "the same command goes on where this one stopped" in said
+        assert "stopped by SIGTERM; give the same command again to continue" in said
         left = [path for path in folder.rglob("*") if path.suffix == ".error" or path.name.split(".")[-1].isdigit()]
         assert left == []
     hangs.unlink()
@@ -263,15 +262,15 @@ def test_too_little_room(observation: str, tmp_path: Path, monkeypatch: pytest.M
     ([], 2, "the following arguments are required"),
     (["FILE", "-o", "FOLDER"], 2, "--dm; --help lists the options"),
     (["FILE", "-dm", "0", "9", "-o", "FOLDER"], 2, "there is no -dm: did you mean --dm?"),
-    (["FILE", "--dm", "20", "10", "-o", "FOLDER"], 2, "argument --dm: 20 is not below 10"),
-    (["FILE", "--dm", "0", "1e3", "-o", "FOLDER"], 2, "1e3 is no number"),
+    (["FILE", "--dm", "20", "10", "-o", "FOLDER"], 2, "argument --dm: LOW, 20, is not below HIGH, 10"),
+    (["FILE", "--dm", "0", "1e3", "-o", "FOLDER"], 2, "1e3 is not a number"),
     (["FILE", "--dm", "0", "99999999", "-o", "FOLDER"], 2, "the greatest that is reached"),
-    (["FILE", "--dm", "0", "9", "-o", "FOLDER", "--snr", "0"], 2, "argument --snr: it is not above 0"),
+    (["FILE", "--dm", "0", "9", "-o", "FOLDER", "--snr", "0"], 2, "argument --snr: it has to be above 0"),
     (["FILE", "--dm", "0", "9", "-o", "FOLDER", "--mask", "64"], 12, "mask refused"),
     (["FILE", "--dm", "0", "9", "-o", "FOLDER", "--slurm", "--parallel", ""], 2, "not allowed with"),
     (["/nowhere/a.dada", "--dm", "0", "9", "-o", "FOLDER"], 6, "can't read /nowhere/a.dada"),
-    (["/dev/null", "--dm", "0", "9", "-o", "FOLDER"], 6, "can't read /dev/null: it has to be a file"),
-    ([__file__, "--dm", "0", "9", "-o", "FOLDER"], 3, "no SIGPROC filterbank or PSRFITS, and as a DADA file: "),
+    (["/dev/null", "--dm", "0", "9", "-o", "FOLDER"], 6, "can't read /dev/null: it is no regular file"),
+    ([__file__, "--dm", "0", "9", "-o", "FOLDER"], 3, "is no SIGPROC filterbank, PSRFITS or DADA file: header of "),
     pytest.param(["FILE", "--dm", "0", "9", "-o", "FILE"], 10, "can't make ", marks=needs_search),
 ])
 def test_what_is_refused(observation: str, tmp_path: Path, monkeypatch: pytest.MonkeyPatch,
@@ -287,7 +286,7 @@ def test_programs_that_are_not_there(observation: str, tmp_path: Path, monkeypat
                                      capsys: pytest.CaptureFixture[str]) -> None:
     words = [observation, "--dm", "0", "9", "-o", str(tmp_path / "hunt")]
     monkeypatch.setenv("PATH", "/nowhere")
-    for more, line in (([], "psr_level is not there: put it on the PATH, or set PSR_LEVEL"),
+    for more, line in (([], "there is no psr_level on the PATH"),
                        (["--slurm"], "argument --slurm: sbatch is not on the PATH"),
                        (["--parallel", "-j 2"], "argument --parallel: parallel is not on the PATH")):
         assert hunted(monkeypatch, *words, *more) == 2
@@ -302,12 +301,12 @@ def test_other_folders(observation: str, tmp_path: Path, monkeypatch: pytest.Mon
     (tmp_path / "full").mkdir()
     (tmp_path / "full" / "mine").touch()
     assert hunted(monkeypatch, *words, str(tmp_path / "full")) == 10
-    assert "is there already, and no hunt" in capsys.readouterr().err
+    assert "exists, and is not the folder of a hunt" in capsys.readouterr().err
     copy = shutil.copy(observation, tmp_path / "copy.dada")
     words[0] = str(copy)
     assert hunted(monkeypatch, *words, str(folder)) == 0
     assert hunted(monkeypatch, *words, str(folder), "--snr", "8") == 10
-    assert "has another hunt: psr_hunt " in capsys.readouterr().err
+    assert "is the folder of another hunt: psr_hunt " in capsys.readouterr().err
     os.utime(copy, ns=(0, 0))
     assert hunted(monkeypatch, *words, str(folder)) == 10
     assert "have changed since" in capsys.readouterr().err

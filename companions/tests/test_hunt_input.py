@@ -57,8 +57,20 @@ def test_forms_are_known(forms: dict[str, list[str]], name: str) -> None:
 
 
 def test_several_forms_are_refused(forms: dict[str, list[str]]) -> None:
-    with pytest.raises(Refusal, match="of several forms"):
+    with pytest.raises(Refusal, match="the files have different formats"):
         converter_of([*forms[""], *forms["psr_fil"]])
+
+
+@pytest.mark.parametrize("count, line", [(60, "it ends before HEADER_END"), (-1, "fewer than two spectra")])
+def test_a_file_that_is_too_short_is_named(forms: dict[str, list[str]], tmp_path: Path, count: int, line: str,
+                                           monkeypatch: pytest.MonkeyPatch, capsys: pytest.CaptureFixture[str]) -> None:
+    path = tmp_path / "short.fil"
+    whole = Path(forms["psr_fil"][0]).read_bytes()
+    path.write_bytes(whole[:count] if count > 0 else whole[:whole.index(b"HEADER_END") + 11])
+    assert hunted(monkeypatch, str(path), "--dm", "0", "20", "-o", str(tmp_path / "hunt"), "--dry-run") == 3
+    said = capsys.readouterr().err
+    assert line in said and str(path) in said and "front" not in said
+
 
 
 @pytest.mark.parametrize("name", ["psr_fil", "psr_fits"])

@@ -1,6 +1,8 @@
 """The plan of a hunt: levels, passes, folds and costs."""
 from __future__ import annotations
 
+import math
+
 import numpy as np
 import pytest
 
@@ -72,6 +74,20 @@ def test_stretches_are_half_a_second() -> None:
     # a pulse of a long delay stays in a channel for long
     levels, _ = planned(FEW, Sought(0, 1000, 512, 6.5))
     assert levels[-1].stretch * levels[-1].average * FEW.seconds > 1
+
+
+def test_wide_pulses_of_low_dm_have_a_pass_without_zero_dm() -> None:
+    for head, low, high in ((PARKES, 0, 1000), (PARKES, 10, 20), (MEERKAT, 20, 2500)):
+        levels, searches = planned(head, Sought(low, high, 512, 6.5), has_plain=True)
+        plain, = (one for one in searches if not one.zero_dm)
+        assert searches[-1] == plain and levels[-1].path == plain.level and not levels[-1].zero_dm
+        assert (plain.average, plain.widths, plain.min_delay) == (16, 32, 0)
+        assert plain.max_delay == math.ceil(min(6 * 512, head.delay(high)) / 16)
+        # drifts are followed over 16 times the widest box
+        assert levels[-1].stretch >= 4 * 16 * plain.widths
+    # a pulse of DM 100 sweeps this band in more than six times 32 ms
+    assert all(one.zero_dm for one in planned(CHIME, Sought(100, 1000, 32, 6.5), has_plain=True)[1])
+    assert all(one.zero_dm for one in planned(PARKES, Sought(0, 1000, 512, 6.5))[1])
 
 
 def test_a_low_threshold_takes_narrow_boxes() -> None:

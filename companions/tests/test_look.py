@@ -78,6 +78,7 @@ def test_the_searches_of_a_level_file(tmp_path: Path, capsys: pytest.CaptureFixt
     assert reach >= 2050 and widest >= 500
 
 
+@made.needs_level
 def test_searches_that_are_said_run(tmp_path: Path, capsys: pytest.CaptureFixture[str]) -> None:
     """What psr_level is told to make is as the search is told."""
     made.make(tmp_path / "made.dada", channels=64, spectra=32768, delay=0, height=0)
@@ -107,6 +108,7 @@ def test_file_size_cuts_between_spectra(tmp_path: Path, capsys: pytest.CaptureFi
     assert times > 1 and size % (384 * times) == 0 and 2**30 - 384 * times < size <= 2**30
 
 
+@made.needs_level
 def test_a_tilted_band_and_channels_that_stand_out(tmp_path: Path, capsys: pytest.CaptureFixture[str]) -> None:
     path = tmp_path / "tilted.dada"
     made.make(path, channels=64, spectra=8192, height=0)
@@ -136,6 +138,7 @@ def drifted(path: Path, bits: int, height: float) -> str:
     return str(path)
 
 
+@made.needs_level
 @pytest.mark.parametrize("bits", [8, 16])
 def test_what_is_to_be_levelled_first(tmp_path: Path, capsys: pytest.CaptureFixture[str], bits: int) -> None:
     assert "level first" not in said(capsys, drifted(tmp_path / "flat.dada", bits, 0), "5")
@@ -168,6 +171,7 @@ def wavy(least: float, most: float) -> np.ndarray:
     return least + (most - least) * (1 + np.sin(np.linspace(0, 9, 256))) / 2
 
 
+@made.needs_level
 @pytest.mark.parametrize("least, channels, mask", [(15, [], "none"), (3, [], "none"), (15, [100], "100"),
                                                    (4, [100, 101, 200], "100-101,200")])
 def test_interference_in_an_uneven_band(tmp_path: Path, capsys: pytest.CaptureFixture[str], least: float,
@@ -233,6 +237,7 @@ def test_constant_data(tmp_path: Path, capsys: pytest.CaptureFixture[str]) -> No
     assert "nothing to search" in lines["constant"] and not {"words", "level first", "hunt", "wider"} & set(lines)
 
 
+@made.needs_level
 @pytest.mark.parametrize("into, words", [("<i2", "--signed"), (">u2", "--high-byte-first")])
 def test_values_of_another_form(tmp_path: Path, capsys: pytest.CaptureFixture[str], into: str, words: str) -> None:
     """All that is said is of the values as they are, and no search takes them as they aren't."""
@@ -280,6 +285,7 @@ def test_times_of_a_header(tmp_path: Path, capsys: pytest.CaptureFixture[str]) -
     assert lines["length"].endswith(", from 2024-01-02T03:04:05.125")
 
 
+@made.needs_level
 def test_a_pipe(tmp_path: Path, capsys: pytest.CaptureFixture[str], monkeypatch: pytest.MonkeyPatch) -> None:
     monkeypatch.setattr("malletbean.noise.VALUES_AT_A_TIME", 5000)
     path, pipe = tmp_path / "made.dada", tmp_path / "pipe"

@@ -36,14 +36,14 @@ def test_a_new_file_is_there_once_it_is_whole(tmp_path: Path) -> None:
         file.write(b"whole")
         assert not path.exists()
     assert path.read_bytes() == b"whole" and os.listdir(tmp_path) == ["a"]
-    with pytest.raises(Refusal, match="it is there already"), new_file(str(path)):
+    with pytest.raises(Refusal, match="it exists already"), new_file(str(path)):
         pass
     assert path.read_bytes() == b"whole"
 
 
 def test_a_file_that_appears_meanwhile_is_kept(tmp_path: Path) -> None:
     path = tmp_path / "a"
-    with pytest.raises(Refusal, match="it is there already"), new_file(str(path)) as file:
+    with pytest.raises(Refusal, match="it exists already"), new_file(str(path)) as file:
         file.write(b"mine")
         path.write_bytes(b"another")
     assert path.read_bytes() == b"another" and os.listdir(tmp_path) == ["a"]

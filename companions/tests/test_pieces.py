@@ -101,10 +101,10 @@ def test_a_part_that_fails_and_one_that_is_there(tmp_path: Path) -> None:
 
 
 @pytest.mark.parametrize("words, status, line", [
-    (["JOBS"], 2, "words refused: plan FOLDER JOBS"),
+    (["JOBS"], 2, "arguments refused: plan FOLDER JOBS"),
     (["FOLDER", "0", "FILE"], 2, "JOBS is '0'"),
-    (["FOLDER", "4", "--mean", "16", "FILE"], 2, "--sd is not said"),
-    (["FOLDER", "4", "--mean", "16", "--sd", "2", "/nowhere"], 2, "/nowhere is not there"),
+    (["FOLDER", "4", "--mean", "16", "FILE"], 2, "--sd is missing"),
+    (["FOLDER", "4", "--mean", "16", "--sd", "2", "/nowhere"], 2, "there is no file /nowhere"),
     (["FOLDER", "4", "--mean", "16", "--sd", "2", "FILE", "--record"], 2, "record by psr_record"),
     (["FOLDER", "4", "--mean", "16", "--sd", "2", "FILE", "+", "FILE"], 2, "several observations"),
     (["FOLDER", "4", "--mean", "16", "--sd", "2", "--max-delay", "1e3", "FILE"], 2, "--max-delay is '1e3'"),

@@ -117,7 +117,7 @@ def test_the_fold_that_is_named(files: dict[str, str], tmp_path: Path) -> None:
     psr_plot([*words, "31"])
     with pytest.raises(Refusal, match="has 32 FOLD lines"):
         psr_plot([*words, "32"])
-    with pytest.raises(Refusal, match="neither a number nor best"):
+    with pytest.raises(Refusal, match="neither a whole number nor best"):
         psr_plot([*words, "-1"])
 
 

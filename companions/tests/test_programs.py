@@ -12,7 +12,6 @@ from malletbean.cut import psr_cut
 from malletbean.dada import psr_dada
 from malletbean.fil import psr_fil
 from malletbean.fits import psr_fits
-from malletbean.level import psr_level
 from malletbean.look import psr_look
 from malletbean.plot import psr_plot
 from malletbean.program import run
@@ -20,7 +19,7 @@ from malletbean.series import psr_series
 from malletbean.table import psr_table
 
 PROGRAMS = {one.__name__: one for one in (
-    psr_cut, psr_dada, psr_fil, psr_fits, psr_level, psr_look, psr_plot, psr_series, psr_table)}
+    psr_cut, psr_dada, psr_fil, psr_fits, psr_look, psr_plot, psr_series, psr_table)}
 MADE, TWO = str(DATA / "made.txt"), str(DATA / "two.txt")
 
 
@@ -49,20 +48,14 @@ def test_the_commands(program: str) -> None:
     ("psr_fits", ["FILE", "OUT"], 3, "refused: it is no FITS file"),
     ("psr_fits", ["/nowhere/a.fits", "OUT"], 6, "can't read /nowhere/a.fits"),
     ("psr_dada", ["FILE"], 2, "the following arguments are required: OUT"),
-    ("psr_dada", ["FILE", MADE], 10, f"can't write {MADE}: it is there already"),
+    ("psr_dada", ["FILE", MADE], 10, f"can't write {MADE}: it exists already"),
     ("psr_dada", ["FILE", "OUT", "--pol", "1"], 2, "argument --pol: "),
-    ("psr_level", [], 2, "the following arguments are required: FILE"),
-    ("psr_level", ["FILE", "--spectra", "1"], 2, "argument --spectra: it is not from 2 to 1048576"),
-    ("psr_level", ["FILE", "--average", "0"], 2, "argument --average: it is not from 1 to 64"),
-    ("psr_level", ["FILE", "--average", "65"], 2, "argument --average: it is not from 1 to 64"),
-    ("psr_level", ["FILE", "--mask", "32"], 12, "mask refused: there are 32 channels, and it names 32"),
-    ("psr_level", ["/nowhere/a.dada"], 6, "can't read /nowhere/a.dada"),
     ("psr_series", ["FILE", "1"], 2, "the following arguments are required: -o"),
     ("psr_series", ["FILE", "1", "-o", "/nowhere/a"], 10, "can't write /nowhere/a_DM0.975.dat: No such"),
-    ("psr_cut", ["FILE", MADE], 10, f"can't write {MADE}: it is there already"),
+    ("psr_cut", ["FILE", MADE], 10, f"can't write {MADE}: it exists already"),
     ("psr_cut", ["FILE", "/nowhere/a.fil"], 10, "can't write /nowhere/a.fil: No such"),
     ("psr_table", ["FILE", "16", "2.828", MADE, "-o", MADE], 2, "ends in none of"),
-    ("psr_table", ["FILE", "1e3", "1", MADE], 2, "1e3 is no number"),
+    ("psr_table", ["FILE", "1e3", "1", MADE], 2, "1e3 is not a number"),
     ("psr_table", ["FILE", "16", "0", MADE], 2, "argument SD: it is 0"),
     ("psr_table", ["FILE", "16", "2.828", "/nowhere/text"], 6, "can't read /nowhere/text"),
     ("psr_table", ["FILE", "16", "2.828", __file__], 4, "no END line"),
@@ -75,7 +68,7 @@ def test_the_commands(program: str) -> None:
     ("psr_table", ["FILE", "16", "2.828", MADE, "-o", "a.txt"], 2, "ends in none of"),
     ("psr_table", ["FILE", "16", "2.828", MADE, "-o", "/nowhere/a.csv"], 10, "can't write /nowhere/a.csv: No such"),
     ("psr_table", ["FILE", "16", "2.828", MADE, "--best", "0"], 2, "below 1"),
-    ("psr_plot", ["FILE", "16", "2.828", MADE], 2, "neither -o PICTURE nor --show"),
+    ("psr_plot", ["FILE", "16", "2.828", MADE], 2, "give -o PICTURE or --show"),
     ("psr_plot", ["FILE", "16", "2.828", MADE, "-o", "/nowhere/a.png"], 10, "can't write /nowhere/a.png: No such"),
     ("psr_plot", ["FILE", "16", "2.828", MADE, "-o", "a.gif"], 2, "ends in none of"),
 ])
@@ -89,10 +82,12 @@ def test_statuses(files: dict[str, str], monkeypatch: pytest.MonkeyPatch, capsys
 
 
 def test_a_full_disk(files: dict[str, str], tmp_path: Path) -> None:
-    script = f"ulimit -f 8; '{sys.executable}' '{HERE.parent}/psr_level' '{files['made']}' > '{tmp_path}/out.dada'"
-    answer = subprocess.run(["bash", "-c", script], capture_output=True, text=True)
+    text = tmp_path / "long"
+    text.write_text("PULSE 20 20 0.975 1 1253 52\n" * 20000 + "END 20000 0 256\n")
+    command = f"'{sys.executable}' '{HERE.parent}/psr_table' '{files['made']}' 16 2.828 '{text}'"
+    answer = subprocess.run(["bash", "-c", f"ulimit -f 8; {command} > '{tmp_path}/out'"], capture_output=True, text=True)
     assert answer.returncode == 10
-    assert answer.stderr == "psr_level: can't write: File too large\n"
+    assert answer.stderr == "psr_table: can't write: File too large\n"
 
 
 def test_a_closed_output(files: dict[str, str], tmp_path: Path) -> None:

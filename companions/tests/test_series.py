@@ -29,6 +29,7 @@ def sigproc(path: Path) -> tuple[dict[str, object], bytes]:
     def word() -> str:
         nonlocal place
         length, = struct.unpack_from("<i", data, place)
+        assert 1 <= length <= 80
         place += 4 + length
         return data[place - length:place].decode()
 
@@ -44,12 +45,32 @@ def sigproc(path: Path) -> tuple[dict[str, object], bytes]:
     return found, data[place:]
 
 
+# the lines of an .inf file of the radio band as PRESTO reads them, one after another, whatever stands before the `=`
+INF = ["Data file name without suffix", "Telescope used", "Instrument used", "Object being observed",
+       "J2000 Right Ascension (hh:mm:ss.ssss)", "J2000 Declination     (dd:mm:ss.ssss)", "Data observed by",
+       "Epoch of observation (MJD)", "Barycentered?           (1=yes, 0=no)", "Number of bins in the time series",
+       "Width of each time series bin (sec)", "Any breaks in the data? (1=yes, 0=no)", "Type of observation (EM band)",
+       "Beam diameter (arcsec)", "Dispersion measure (cm-3 pc)", "Central freq of low channel (MHz)",
+       "Total bandwidth (MHz)", "Number of channels", "Channel bandwidth (MHz)", "Data analyzed by"]
+
+
 def inf(path: Path) -> dict[str, str]:
-    """The lines of an .inf file, as PRESTO and riptide part them."""
-    lines = path.read_text().split(" Any additional notes:")[0].splitlines()
-    for line in lines:
-        assert re.fullmatch(r" .{39}=  .*", line), line
-    return {line[:40].strip(): line[40:].lstrip("= ") for line in lines}
+    """The lines of an .inf file. PRESTO takes what stands behind an `=` in column 41, riptide what stands behind the
+    last one of a line; both parts of a time or an angle by colons."""
+    lines = path.read_bytes().decode("ascii").splitlines()
+    found = {}
+    for keyword, line in zip(INF, lines):
+        assert len(line) < 200 and line[40] == "=" and line[:40].strip() == keyword
+        found[keyword] = line[41:].strip()
+        assert found[keyword] == line.split("=")[-1].strip() != ""
+    assert lines[len(INF)] == " Any additional notes:" and len(lines[len(INF) + 1]) < 200
+    for keyword in INF[4:6]:
+        assert re.fullmatch(r"-?\d\d:\d\d:\d\d(\.\d+)?", found[keyword])
+    assert re.fullmatch(r"\d+\.\d{15}", found["Epoch of observation (MJD)"])
+    assert found["Type of observation (EM band)"] == "Radio" and found["Any breaks in the data? (1=yes, 0=no)"] == "0"
+    # a transform takes no odd number of values
+    assert int(found["Number of bins in the time series"]) % 2 == 0
+    return found
 
 
 def dedispersed(path: str, delay: int, mask: str = "none") -> np.ndarray:
@@ -73,6 +94,7 @@ def test_series(files: dict[str, str], tmp_path: Path, name: str, mask: str) -> 
     for delay in (20, 0, 7):
         series = tmp_path / f"a_DM{samples.header.dm(delay):.3f}"
         expected = dedispersed(files[name], delay, mask)
+        expected = expected[:len(expected) // 2 * 2]
         values = np.fromfile(f"{series}.dat", "<f4")
         assert values == pytest.approx(expected, rel=1e-6)
         lines = inf(Path(f"{series}.inf"))
@@ -110,10 +132,10 @@ def test_a_dm_becomes_the_nearest_delay(files: dict[str, str], tmp_path: Path,
 
 
 @pytest.mark.parametrize("words, status, line", [
-    ([], 2, "neither a DM nor --delay"),
+    ([], 2, "give a DM or --delay"),
     (["--delay", "256"], 2, "a delay of 256 spectra is not within the 256 of the data"),
     (["--delay", "-1"], 2, "a delay of -1 spectra is not within"),
-    (["1e3"], 2, "1e3 is no dispersion measure"),
+    (["1e3"], 2, "1e3 is not a dispersion measure"),
     (["1", "--fold", "0.0001"], 2, "shorter than two spectra, or longer than the data"),
     (["1", "--fold", "1"], 2, "shorter than two spectra, or longer than the data"),
 ])
@@ -180,7 +202,7 @@ def test_a_part_of_the_time(files: dict[str, str], tmp_path: Path) -> None:
     (["--from", "1"], 2, "are not within them"),
     (["--length", "0.2"], 2, "are not within them"),
     (["--length", "0"], 2, "are not within them"),
-    (["--from", "-1"], 2, "-1 is no time in seconds"),
+    (["--from", "-1"], 2, "-1 is not a time in seconds"),
 ])
 def test_a_part_that_is_not_there(files: dict[str, str], tmp_path: Path, words: list[str], status: int,
                                   line: str) -> None:
@@ -190,5 +212,5 @@ def test_a_part_that_is_not_there(files: dict[str, str], tmp_path: Path, words: 
 
 
 def test_a_filterbank_is_not_written_over(files: dict[str, str]) -> None:
-    with pytest.raises(Refusal, match="it is there already"):
+    with pytest.raises(Refusal, match="it exists already"):
         psr_cut([files["made"], str(DATA / "made.txt")])

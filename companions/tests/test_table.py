@@ -11,6 +11,7 @@ import pytest
 
 from conftest import DATA, HERE
 from malletbean import Refusal
+from malletbean.plot import psr_plot
 from malletbean.table import VIEW, psr_table
 
 MADE, FOLDS, TWO = (str(DATA / f"{name}.txt") for name in ("made", "folds", "two"))
@@ -117,8 +118,11 @@ def test_a_text_that_grows(files: dict[str, str], tmp_path: Path, capsys: pytest
     psr_table([files["made"], "16", "2.828", str(text)])
     answer = capsys.readouterr()
     assert len(answer.out.splitlines()) == 3
-    assert answer.err == (f"psr_table: {text} goes on behind its last CHECK line: it was read up to spectrum 110\n"
-                          f"psr_table: {text} has no pulses of parts that had too many: those that end at 110\n")
+    said = (f"{{}}: {text} goes on behind its last CHECK line: it was read up to spectrum 110\n"
+            f"{{}}: {text} has no pulses of parts that had too many: those that end at 110\n")
+    assert answer.err == said.format("psr_table", "psr_table")
+    psr_plot([files["made"], "16", "2.828", str(text), "-o", str(tmp_path / "a.png")])
+    assert capsys.readouterr().err == said.format("psr_plot", "psr_plot") and (tmp_path / "a.png").stat().st_size > 1000
 
 
 def test_arrays(files: dict[str, str], tmp_path: Path) -> None:

@@ -115,7 +115,7 @@ def test_a_text_of_parts_that_goes_on(tmp_path: Path) -> None:
     (MADE[:-5], "no END line"),
     (MADE + "PULSE 1 1 0.000 1 1 1\n", "no END line"),
     (MADE.replace("END 5", "END 6"), "has 5 PULSE and 0 FOLD lines"),
-    (MADE.replace("END 5", "END 6"), "its last line counts others; of a last part of psr_part say --part"),
+    (MADE.replace("END 5", "END 6"), "its last line counts others; of a last part of psr_part give --part"),
     (MADE.replace("END 5 0", "END 5 1"), "has 5 PULSE and 0 FOLD lines"),
     (MADE.replace("PULSE 120 19", "OTHER 120 19"), "begins with OTHER"),
     (MADE.replace("PULSE 120 19", "PULSE 120"), "number of columns"),
