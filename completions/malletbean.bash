@@ -19,10 +19,16 @@ _malletbean() { # _malletbean COMMAND WORD PREVIOUS_WORD
         psr_part)
             options='--mean --sd --snr --max-delay --min-delay --widths --max-candidates --max-bytes --buffers --size
                 --chunk' ;;
+        psr_live)
+            options='--mean --sd --snr --max-delay --min-delay --widths --max-candidates --max-bytes --buffers --size
+                --chunk' ;;
         psr_beams)
             options='--mean --sd --snr --max-delay --min-delay --widths --fold-max --fold-min --fold-rows --fold-step
                 --max-candidates --max-bytes --buffers --size --chunk --turns' ;;
         psr_record) options='--max-bytes --file-size --hands --buffers --size --turns' ;;
+        psr_level)
+            options='--max-bytes --spectra --average --mask --clip --zero-dm --mean --deviation --most --fast --signed
+                --high-byte-first' ;;
         psr_make) options='--number --nchan --spectra --delay --period --height --nbit --npol' ;;
         psr_cut) options='--from --length --next' ;;
         psr_dada) options='--state --order --pol --values --signed --high-byte-first' ;;
@@ -31,9 +37,6 @@ _malletbean() { # _malletbean COMMAND WORD PREVIOUS_WORD
         psr_hunt)
             options='--dm --output --snr --widths --mask --clip --keep-bursts --cores --slurm --parallel --periods
                 --keep --dry-run' ;;
-        psr_level)
-            options='--spectra --average --mask --clip --zero-dm --mean --deviation --most --fast --signed
-                --high-byte-first --max-bytes' ;;
         psr_look) options='--megabytes --mask --channels' ;;
         psr_plot) options='--obs --beam --mask --part --output --show --fold --next' ;;
         psr_series) options='--delay --output --fold --next --mask' ;;
@@ -44,33 +47,35 @@ _malletbean() { # _malletbean COMMAND WORD PREVIOUS_WORD
                 --turns' ;;
     esac
     case $program:$at:$previous in # what stands first, and the values of options
-        psr_part:1:* | psr_beams:1:*) names='' ;;
-        psr_search:*:--record | psr_cut:*:--next | psr_dada:*:--signed | psr_dada:*:--high-byte-first | \
+        psr_part:1:* | psr_live:1:* | psr_beams:1:*) names='' ;;
+        psr_search:*:--record | psr_level:*:--zero-dm | psr_level:*:--fast | psr_level:*:--signed | \
+            psr_level:*:--high-byte-first | psr_cut:*:--next | psr_dada:*:--signed | psr_dada:*:--high-byte-first | \
             psr_fil:*:--keyword | psr_hunt:*:--output | psr_hunt:*:--keep-bursts | psr_hunt:*:--slurm | \
-            psr_hunt:*:--keep | psr_hunt:*:--dry-run | psr_level:*:--zero-dm | psr_level:*:--fast | \
-            psr_level:*:--signed | psr_level:*:--high-byte-first | psr_look:*:--channels | psr_plot:*:--part | \
-            psr_plot:*:--output | psr_plot:*:--show | psr_plot:*:--next | psr_series:*:--output | psr_series:*:--next \
-            | psr_table:*:--part | psr_table:*:--output | psr_table:*:--folds)
+            psr_hunt:*:--keep | psr_hunt:*:--dry-run | psr_look:*:--channels | psr_plot:*:--part | psr_plot:*:--output \
+            | psr_plot:*:--show | psr_plot:*:--next | psr_series:*:--output | psr_series:*:--next | psr_table:*:--part \
+            | psr_table:*:--output | psr_table:*:--folds)
             names=yes ;;
-        psr_search:*:--widths | psr_mask:*:--widths | psr_part:*:--widths | psr_beams:*:--widths | \
-            psr_plan:*:--widths)
+        psr_search:*:--widths | psr_mask:*:--widths | psr_part:*:--widths | psr_live:*:--widths | psr_beams:*:--widths \
+            | psr_plan:*:--widths)
             values='1 2 4 8 16 32' names='' ;;
         psr_search:*:--fold-rows | psr_mask:*:--fold-rows | psr_beams:*:--fold-rows | psr_plan:*:--fold-rows)
             values='1 2 3 4 5 6 7 8 9 10 11 12' names='' ;;
         psr_search:*:--shards | psr_plan:*:--shards) values='1 2 3 4 5 6 7' names='' ;;
         psr_search:*:--hands | psr_record:*:--hands | psr_plan:*:--hands) values='1 2 3 4 5 6 7 8 9' names='' ;;
-        psr_mask:1:*) values=none names='' ;;
-        psr_part:2:*) values=new ;;
+        psr_mask:1:* | psr_level:*:--mask) values=none names='' ;;
+        psr_part:2:* | psr_live:2:*) values=new ;;
         psr_beams:2:*) values='1 2 3 4 5 6' names='' ;;
         psr_make:*:--nbit) values='8 16' names='' ;;
         psr_make:*:--npol) values='1 2' names='' ;;
         psr_dada:*:--values) values='int float' names='' ;;
-        psr_why:1:*) values='psr_search psr_mask psr_part psr_beams psr_record psr_make psr_demo ring_trace' names='' ;;
+        psr_why:1:*)
+            values='psr_search psr_mask psr_part psr_live psr_beams psr_record psr_level psr_make psr_demo ring_trace'
+                names='' ;;
         *:--*) names='' ;;
     esac
     [[ $word != -* ]] || values=$options names=''
     mapfile -t COMPREPLY < <(compgen -W "$values" -- "$word"; [[ -z $names ]] || compgen -f -- "$word")
 }
-complete -o filenames -F _malletbean psr_search psr_mask psr_part psr_beams psr_record psr_make psr_demo ring_trace \
-    psr_cut psr_dada psr_fil psr_fits psr_hunt psr_level psr_look psr_plot psr_series psr_table psr_why psr_plan \
-    psr_join
+complete -o filenames -F _malletbean psr_search psr_mask psr_part psr_live psr_beams psr_record psr_level psr_make \
+    psr_demo ring_trace psr_cut psr_dada psr_fil psr_fits psr_hunt psr_look psr_plot psr_series psr_table psr_why \
+    psr_plan psr_join

@@ -2,11 +2,12 @@
 # Tries the programs together: check.sh [BINDIR], with those in BINDIR or those that were last built here. A made
 # observation of 1024 channels is searched by four shards and recorded in three files; one shard, the three files, and
 # psr_record give the same again; a file that exists is never overwritten; psr_mask with no mask, two parts of psr_part
-# and each of two beams of psr_beams give the output of the search, but that both beams see its pulses.
+# and each of two beams of psr_beams give the output of the search, but that both beams see its pulses; psr_level
+# writes the same of one file, of three, and of a pipe, and a search of it through a pipe finds pulses.
 # Statuses: 0; 1 if something differs; 2 if a program is missing.
 set -u
 . "$(dirname "$0")/../bench/common.bash"
-find_programs "${1:-}" psr_make psr_search psr_record psr_demo psr_mask psr_part psr_beams
+find_programs "${1:-}" psr_make psr_search psr_record psr_level psr_demo psr_mask psr_part psr_beams
 make_folder
 cd "$folder" || exit 2
 
@@ -44,6 +45,29 @@ same 'both outputs' "$({ head -n -1 front; cat rest; } | md5sum)" "$(md5sum <tex
 "${at[psr_beams]}" 0 1 "${arguments[@]}" obs.dada obs.dada >again
 same 'psr_beams: status' $? 0
 same 'its output' "$(md5sum <again)" "$(for beam in 0 1; do echo "BEAM $beam"; sed 's/^PULSE/RFI/' text; done | md5sum)"
+
+# one writer fills the pipes of both beams in turn, in pieces that no pipe holds
+mkfifo pipe0 pipe1
+piece() { dd if=obs.dada bs=4K skip="$1" count="$2" status=none; }
+{
+    piece 0 1 >&3
+    exec 4>pipe1
+    piece 0 1 >&4
+    for block in {1..897..128}; do piece "$block" 128 >&3 && piece "$block" 128 >&4; done
+} 3>pipe0 &
+writer=$!
+timeout 60 "${at[psr_beams]}" 0 1 --turns 1 --size 4096 "${arguments[@]}" pipe0 pipe1 >pipes
+same 'psr_beams of two pipes: status' $? 0
+same 'its output' "$(md5sum <pipes)" "$(md5sum <again)"
+kill "$writer" 2>/dev/null
+
+"${at[psr_level]}" --spectra 512 obs.dada >level.dada
+same 'psr_level: status' $? 0
+"${at[psr_level]}" --spectra 512 "${files[@]}" >again
+same 'psr_level of the recorded files' "$(tail -c +4097 again | md5sum)" "$(tail -c +4097 level.dada | md5sum)"
+"${at[psr_level]}" --spectra 512 /dev/stdin <obs.dada | "${at[psr_search]}" --mean 64 --sd 8 --max-delay 512 \
+    --max-candidates 1000000 /dev/stdin | tail -n 1 >again
+same 'psr_search of what it wrote, through a pipe' "$(cat again)" 'END 325 0 4096'
 
 before=$(md5sum 2024-*.dada)
 "${at[psr_search]}" "${recording[@]}" obs.dada >again 2>notes
