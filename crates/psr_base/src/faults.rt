@@ -2,7 +2,7 @@
 use std::alloc::{AllocError, AllocFailed};
 use thiserror::Error;
 
-/// An outside object failed. Its count of faults tells that it did.
+/// A call of an outside object failed. The object has counted it among its faults.
 #[derive(Clone, Copy, Debug, PartialEq, Eq, Error)]
 #[error("an outside object failed")]
 pub struct Failed;
