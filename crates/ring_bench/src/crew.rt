@@ -7,7 +7,7 @@ use std::alloc::{AllocError, Global};
 /// The buffers of two threads are at least this many bytes apart, so that they are on different cache lines.
 const APART: usize = 256;
 
-/// What a reader does besides reading.
+/// What a reader does apart from reading.
 #[derive(Clone, Copy, PartialEq, Eq)]
 pub enum Manner {
     /// It only reads.

@@ -6,7 +6,7 @@ ghost use Rattle.ring_trace.specs.Events.{answer_line};
 use ring_core::Answer;
 use text_line::Line;
 
-/// A line that begins with this text.
+/// A line of a text alone.
 fn word(text: &str) -> Line
     requires { length text.now ≤ 16 }
     ensures { result ≡ text.now }

@@ -59,7 +59,7 @@ pub struct Search {
     pub mean: u32,
     /// The standard deviation of a sample, in thousandths.
     pub sd: u32,
-    /// The detection threshold: a signal-to-noise ratio, in hundredths.
+    /// The smallest signal-to-noise ratio of a candidate, in hundredths.
     pub snr: u32,
 }
 
