@@ -85,7 +85,7 @@ pub fn ranges_merge()
 {}
 
 /// The pulses that end at or after a spectrum can be found without any data further before it than the longest delay
-/// and the widest box.
+/// and the widest box together.
 pub fn parts_need_no_more()
     ensures { PartsNeedNoMore }
 {}
