@@ -41,17 +41,6 @@ impl HduEnded {
         }
     }
 
-    /// The number of data blocks that the reader cleared.
-    pub fn cleared_blocks(&self) -> u64
-        ensures { result ≡ length (ended_knows (data_end self.now)).cleared }
-    {
-        match self {
-            HduEnded::Here(reader) => reader.blocks.cleared(),
-            HduEnded::Away(reader) => reader.blocks.cleared(),
-            HduEnded::Retired(reader) => reader.blocks.cleared(),
-        }
-    }
-
     // The reader of the header ring, and the reader of the data ring.
     pub(crate) fn into_both(self) -> (EndedReader, EndedReader)
         ensures header { result.0 ≡ header_end self }
