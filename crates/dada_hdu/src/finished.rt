@@ -9,10 +9,12 @@ use arrayvec::ArrayVec;
 use ring_ends::{EndedReader, Finished};
 use ring_words::MOST_READERS;
 
-/// What went through the header ring (`header`) and through the data ring (`blocks`).
+/// What went through both rings.
 #[derive(Drop)]
 pub struct HduFinished {
+    /// What went through the header ring.
     pub header: Finished,
+    /// What went through the data ring.
     pub blocks: Finished,
 }
 

@@ -3,31 +3,39 @@ ghost use Rattle.std.specs.Prelude.{◌≡◌};
 
 use ring_ends::{DetachedReader, ReaderPass, RetiredPass, WriterPass};
 
-/// The right to write to both rings. `header` is the pass of the header ring, `blocks` that of the data ring.
+/// The right to write to both rings.
 #[derive(Drop)]
 pub struct HduWriter {
+    /// The pass of the header ring.
     pub header: WriterPass,
+    /// The pass of the data ring.
     pub blocks: WriterPass,
 }
 
 /// The right to read from both rings, as one of their registered readers.
 #[derive(Drop)]
 pub struct HduReader {
+    /// The pass of the header ring.
     pub header: ReaderPass,
+    /// The pass of the data ring.
     pub blocks: ReaderPass,
 }
 
 /// A registered reader that reads nothing for now. The writer still waits for it.
 #[derive(Drop)]
 pub struct HduDetached {
+    /// The pass of the header ring.
     pub header: DetachedReader,
+    /// The pass of the data ring.
     pub blocks: DetachedReader,
 }
 
 /// A reader that the writer no longer waits for.
 #[derive(Drop)]
 pub struct HduRetired {
+    /// The pass of the header ring.
     pub header: RetiredPass,
+    /// The pass of the data ring.
     pub blocks: RetiredPass,
 }
 
