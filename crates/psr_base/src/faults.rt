@@ -1,4 +1,4 @@
-// Answers that name a refusal and carry nothing else.
+// Errors that carry nothing.
 use std::alloc::{AllocError, AllocFailed};
 use thiserror::Error;
 

@@ -13,7 +13,7 @@ pub trait Files {
     /// have failed. That count stops at the largest u64.
     ghost seen: { Self → FilesSeen };
 
-    /// A file was created and isn't finished.
+    /// Whether a file was created and isn't finished.
     ghost is_open: { Self → Type 0 };
 
     /// Creates an empty file. `name` must be new: a name that is there is refused.

@@ -58,7 +58,7 @@ pub fn order_is_strict()
     ensures { OrderIsStrict }
 {}
 
-/// Two rising lists with the same members are equal, and any lists have exactly one merge.
+/// Two rising lists with the same members are equal, and lists have at most one merge.
 pub fn rising_lists_agree()
     ensures { RisingListsAgree }
 {}
