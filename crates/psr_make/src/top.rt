@@ -8,8 +8,8 @@ use crate::stop::Stop;
 use psr_base::{Files, Sink, write_all};
 use std::alloc::Global;
 
-/// Makes the observation that the words ask for in a new file. The first word is the program's name. The exit status is
-/// answered; where it isn't 0, a line to `notes` says why. A fault of `notes` changes nothing.
+/// Makes the observation that the arguments `words` ask for in a new file. The first of `words` is the program's name.
+/// Returns the exit status; if it isn't 0, a line to `notes` tells why. A fault of `notes` changes nothing.
 pub fn run_make<F: Files, E: Sink>(
     alloc: Global,
     words: &[String],
@@ -29,7 +29,7 @@ pub fn run_make<F: Files, E: Sink>(
     }
 }
 
-// The same without the notes.
+// Makes the observation, as `run_make` does, without the notes.
 fn make_asked<F: Files>(alloc: Global, words: &[String], files: &mut F) -> Result<(), Stop>
     requires { ¬ F.is_open files.old }
     ensures { Ends (map string_bytes words.now) (F.seen files.old) (F.seen files.new) result }
