@@ -64,8 +64,8 @@ fn rounded(part: u128, whole: u128, d: u32) -> u32
     ((2 * u128::from(d) * part + whole) / (2 * whole)) as u32
 }
 
-/// The delay path of `d` spectra: for each edge, how many spectra after the top of the band the pulse passes it, from 0
-/// to `d`. The edges are in kHz, the highest first. The error is want of memory.
+/// The delay path of `d` spectra: for each edge, how many spectra after the top of the band the pulse passes it, from 0 to
+/// `d`. The edges are in kHz, the highest first.
 pub fn edge_delays(alloc: Global, edges: &[u32], d: u32) -> Result<Vec<u32>, Memory>
     requires edges { AreEdges (channels_of edges.now) edges.now }
     requires delay { d ≤ most_delay }
