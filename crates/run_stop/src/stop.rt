@@ -9,7 +9,7 @@ use disk_feeder::HeaderCause;
 use search_words::Opt;
 use text_line::Line;
 
-/// Why a run ended without all that it was asked for. Files count from 0 over all transfers.
+/// Why a run ended before it did all that was asked. Files count from 0 over all transfers.
 #[derive(Clone, Copy, Debug, PartialEq, Eq)]
 pub enum Stop {
     /// The arguments are refused.
