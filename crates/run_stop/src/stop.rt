@@ -88,7 +88,7 @@ fn many_line(count: u64, limit: u32) -> Line
     line
 }
 
-// A line of words alone.
+// A line without numbers.
 fn plain_line(text: &str) -> Line
     requires { length text.now ≤ 64 }
     ensures { result ≡ text.now }
