@@ -57,7 +57,8 @@ FeedsRow b c d feed = (xs : List ℕ) → StandsForRow b d xs → StandsForRow c
 
 -- each row but row d stands for what it stood for before
 abbrev pub LeavesOthers : RowTails → RowTails → ℕ → Type 0
-LeavesOthers b c d = (e : ℕ) (xs : List ℕ) → KeepsRow b e → e ≢ d → StandsForRow b e xs → StandsForRow c e xs
+LeavesOthers b c d =
+    (e : ℕ) (xs : List ℕ) → KeepsRow b e → e ≢ d → StandsForRow b e xs → StandsForRow c e xs
 
 -- both are opened alike
 pub record AreAlike (b c : RowTails) : Type 0 where
