@@ -38,7 +38,7 @@ pub struct Engine {
     search: Search,
     shard: u32,
     masked: Masked,
-    // bytes: of a spectrum, that are skipped at first, and after which the search stops
+    // in bytes: the size of a spectrum, how many are skipped at first, and after how many the search stops
     spectrum: u64,
     skipped: u64,
     stop: Option<u64>,
