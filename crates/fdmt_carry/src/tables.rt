@@ -75,7 +75,7 @@ impl Tables {
         narrow_limit(&self.plan)
     }
 
-    /// Law: the rows are those of the plan. It does nothing.
+    /// Law: the rows are those of the plan, and the numbers of spectra are in range. It does nothing.
     pub fn hold(&self)
         ensures { AreTables self.now }
     {

@@ -1,6 +1,5 @@
--- Rows that are made each at a place of its own, and all stand there. What is kept of a row does not
--- stand in front of it.
--- Source: this project's choice.
+-- Rows that are each made at a place of its own, where they stand all at once. What is kept of a
+-- row does not stand in front of it.
 use Rattle.std.specs.Prelude.{◌≡◌, ◌≢◌, ℕ, ◌+◌, ◌-◌, ◌*◌, ◌%◌, ◌^◌, ◌≤◌, ◌<◌, Bool, List, Some, length, slice_get, slice_index}
 use Rattle.fdmt_rows.specs.Rows.{wrapping_sum}
 use Rattle.row_model.specs.declared.Merge.{Merge}
@@ -107,14 +106,14 @@ KeepsOn rows narrow room spectra wide old new = (x : ℕ → ℕ → ℕ) (y : S
     ((r : ℕ) → r < row_count rows → StandsAtPlace room y u spectra wide r) →
     Kept rows narrow y (u + spectra) new
 
--- a list alone was written, and is as long as it was
+-- only the list `wide` was written, and no length changed
 pub record WroteWide (old new : Stores) : Type 0 where
   pub long : length new.wide ≡ length old.wide
   pub narrow : new.narrow ≡ old.narrow
   pub kept_narrow : new.kept_narrow ≡ old.kept_narrow
   pub kept_wide : new.kept_wide ≡ old.kept_wide
 
--- or the lists of what is kept alone were, and are as long as they were
+-- only what is kept was written, and no length changed
 pub record WroteKept (old new : Stores) : Type 0 where
   pub narrow : new.narrow ≡ old.narrow
   pub wide : new.wide ≡ old.wide
