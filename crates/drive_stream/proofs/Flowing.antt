@@ -1,5 +1,5 @@
 -- One block more of the data of a stream.
-use Rattle.std.proofs.Common.{◌≡◌, ℕ, ◌+◌, ◌<◌, ◌≤◌, ◌^◌, List, [], ◌∷◌, ◌++◌, None, length, take, sym, ◌∙◌, subst, arith}
+use Rattle.std.proofs.Common.{◌≡◌, ℕ, ◌+◌, ◌<◌, ◌≤◌, ◌^◌, [], ◌∷◌, ◌++◌, None, length, take, sym, ◌∙◌, subst, arith}
 use Rattle.psr_base.specs.Told.{Told}
 use Rattle.psr_base.specs.Written.{SinkSeen}
 use Rattle.stream_model.specs.Blocks.{joined_bytes}

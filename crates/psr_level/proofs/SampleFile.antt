@@ -4,7 +4,7 @@ use Rattle.std.specs.Prelude.{◌⊎◌, codes, get_or}
 use Rattle.std.specs.Io.KnownBytes.{append_known}
 use Rattle.clap.proofs.OnLiterals.{clap_on_literals}
 use Rattle.psr_base.specs.Told.{Told}
-use Rattle.psr_base.specs.Written.{SinkSeen, WroteAll}
+use Rattle.psr_base.specs.Written.{WroteAll}
 use Rattle.dada_model.specs.Number.{number_value}
 use Rattle.dada_model.specs.Fields.{HeaderText, header_bytes, is_white, without_comment, words_of, fields_of, value_of, header_size, header_of}
 use Rattle.dada_model.specs.Observation.{Observation, number_of, observation_in, observation_of, refusal_at, refusals, signed_edge, edge}
@@ -23,8 +23,8 @@ use Rattle.level_words.specs.Settings.{LevelSeen, SayLevel}
 use Rattle.level_plan.specs.declared.field.Field.TheVariants.{Tsamp}
 use Rattle.level_plan.specs.Headers.{level_header, all_fields, new_number, HasNoRoom}
 use Rattle.drive_stream.specs.Outcome.{OfHead, first_header}
-use Rattle.psr_level.specs.Complete.{IsComplete, IsOutside}
-use Rattle.psr_level.specs.Files.{ForLevel, level_file}
+use Rattle.psr_level.specs.Complete.{IsOutside}
+use Rattle.psr_level.specs.Files.{level_file}
 use Rattle.psr_level.specs.Levels.{CanLevel, file_of, header_in, task_in}
 use Rattle.psr_level.specs.Sample.{sample_words, sample_header, sample_data, sample_levels, sample_with, SampleIsLevelled}
 
