@@ -1,5 +1,5 @@
 // Making observations, as bytes and as files.
-ghost use Rattle.std.specs.Prelude.{◌≡◌, ◌+◌, ◌*◌, length, IfOk, OnOk, Err};
+ghost use Rattle.std.specs.Prelude.{◌≡◌, ◌≢◌, ◌+◌, ◌*◌, length, IfOk, OnOk, Err};
 ghost use Rattle.psr_make.specs.Made.{SpecInRange, spectrum_bytes, made_file};
 ghost use Rattle.psr_make.specs.Filed.{FileMade, MakingStopped};
 
@@ -58,7 +58,7 @@ pub fn make<F: Files>(
     requires closed { ¬ F.is_open files.old }
     ensures made { OnOk result
         (FileMade name.now (made_file spec.now) (F.seen files.old) (F.seen files.new)) }
-    ensures closed { OnOk result (¬ F.is_open files.new) }
+    ensures closed { result ≢ Err MakeStop.FileFault → ¬ F.is_open files.new }
     ensures fault { result ≡ Err MakeStop.FileFault
         → MakingStopped name.now (made_file spec.now) (F.seen files.old) (F.seen files.new) }
     ensures memory { result ≡ Err MakeStop.Memory → F.seen files.new ≡ F.seen files.old }
