@@ -525,7 +525,8 @@ module _ {I S F : Type 0} {told : I → Told} {is_open is_calm : I → Type 0} {
       let bytes = joined_bytes w.blocks in
       let left = left_by told is_open is_calm faults takes opens leaves s one f j o stream at w.kept before same bytes
       w.ending seen after w.left files are in
-      let Left : Ending F → Type 0 = λ ending. OfHead (λ p h. leaves p h bytes ending seen after) (stream_for s files) in
+      let Left : Ending F → Type 0 = λ ending.
+      OfHead (λ p h. leaves p h bytes ending seen after) (stream_for s files) in
       inr (bytes, subst Left (refused_at_end w.end w.ending stop refusal w.is is) left.2)
   all_refused (inr w) before same refusal is files are = absurd (other stop w.is is)
     where

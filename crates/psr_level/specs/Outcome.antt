@@ -67,8 +67,8 @@ pub record ReadsRefused (s : LevelSeen) (before after : Told)
       ReadsFirsts s.run.names w before after ⊎ IsFromOutside stop)
 
 -- What was read at 5: no file, or the first header and no byte past it; at 12, and at 3 if that header is accepted and
--- refused by the settings, it and no byte past it. And what a fault of the inputs left at 6, before the first header was
--- judged or while data were read.
+-- refused by the settings, it and no byte past it. And what a fault of the inputs left at 6, before the first header
+-- was judged or while data were read.
 pub record LeavesFiles (words : List (List ℕ)) (is_calm : Type 0) (before after : Told)
     (status : ℕ) : Type 0 where
   pub unread : status ≡ 5 → (after ≡ before) ⊎ ((s : LevelSeen) → SayLevel words s →

@@ -233,8 +233,7 @@ module _ (joined : BytesAreJoined) (words : List (List ℕ)) (s : SettingsSeen) 
           SaysBefore (λ o header refusal. RefusesLive s.search o refusal) (with_search tt s) told what → ⊥
       said files are (streamed.Run what) is says = absurd cc
       said files are (streamed.Refused (refusals.Plan cause)) is says = absurd cc
-      said files are (streamed.Refused (refusals.Beyond p n)) is says =
-          (says files (told_at _ told s.names files are)).1
+      said files are (streamed.Refused (refusals.Beyond p n)) is says = says.holds
 
       unopened : (files : List (List ℕ)) → AreTold told s.names files →
           EndsEarly (λ o header refusal. RefusesLive s.search o refusal) (with_search tt s) told before after

@@ -61,7 +61,8 @@ returns-in-Ok-clause-leaves g c =
     let i = g.I.Inputs in
     leaves_files c.statuses_say_stops.ensures (map string_bytes c.args.words.now) (level_seen c.in-Ok.settings)
     c.in-Ok.ensures.says (i.is_calm c.args.inputs.now) (i.told c.args.inputs.now) (i.told c.stream.new.inputs)
-    c.stream.result 0 (sym (ap end_status (ap (option_map stop_of_stream) c.in-None.is))) c.stream.ensures.leaves c.stream.ensures.refused
+    c.stream.result 0 (sym (ap end_status (ap (option_map stop_of_stream) c.in-None.is)))
+    c.stream.ensures.leaves c.stream.ensures.refused
 
 pub returns-clause-leaves : goal.returns-clause-leaves
 returns-clause-leaves g c =
