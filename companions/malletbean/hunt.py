@@ -39,6 +39,7 @@ from .report import write_report
 from .samples import Samples
 from .series import write_candidate_series
 from .settings import Settings, write_settings
+from .workers import workers
 
 # the status where a job failed
 FAILED = 14
@@ -423,8 +424,10 @@ def finish(asked: argparse.Namespace, running: Running, begun: float) -> None:
     """Writes candidates and report, says what was found, and removes what is of no more use."""
     folder = running.folder
     table = write_candidates(folder)
-    write_candidate_series(folder, table, MOST_SERIES)
-    write_report(folder, most=MOST_PICTURES)
+    with workers(1) as pool:
+        series = pool.submit(write_candidate_series, folder, table, MOST_SERIES)
+        write_report(folder, most=MOST_PICTURES)
+        series.result()
     lines = summary_lines(folder, running.hunt, count_lines(running), time.monotonic() - begun)
     if not asked.keep:
         clear(running)

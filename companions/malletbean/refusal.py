@@ -22,6 +22,10 @@ class Refusal(Exception):
         self.status = status
         self.line = line
 
+    def __reduce__(self) -> tuple[type[Refusal], tuple[int, str]]:
+        """How a refusal comes from another process."""
+        return Refusal, (self.status, self.line)
+
 
 def opened(path: str) -> BinaryIO:
     """A file or a pipe to read."""

@@ -3,12 +3,9 @@ from __future__ import annotations
 
 import base64
 import io
-import multiprocessing
 import os
 import shlex
-import signal
 from collections.abc import Callable, Sequence
-from concurrent.futures import ProcessPoolExecutor
 from dataclasses import replace
 from datetime import datetime, timezone
 from itertools import repeat
@@ -31,6 +28,7 @@ from .refusal import Refusal
 from .samples import Samples
 from .series import fold_of, fold_picture
 from .texts import read
+from .workers import workers
 
 # rows of the table, folds that get a picture, and dots of an inch
 MOST_ROWS, MOST_FOLDS, DOTS = 2000, 6, 100
@@ -200,15 +198,8 @@ def beside_each_other(draw: Callable[..., Figure], asked: Sequence[tuple[Any, ..
     if not asked:
         return []
     cores = min(len(os.sched_getaffinity(0)), len(asked))
-    with ProcessPoolExecutor(cores, multiprocessing.get_context("fork"), left_to_parent) as pool:
+    with workers(cores) as pool:
         return [*pool.map(drawn, repeat(draw), asked)]
-
-
-def left_to_parent() -> None:
-    """Who draws ends by signals without a word: the one that waits for it says it."""
-    signal.signal(signal.SIGINT, signal.SIG_IGN)
-    signal.signal(signal.SIGTERM, signal.SIG_DFL)
-    signal.signal(signal.SIGHUP, signal.SIG_DFL)
 
 
 def drawn(draw: Callable[..., Figure], asked: tuple[Any, ...]) -> tuple[str, str]:

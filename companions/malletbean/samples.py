@@ -37,7 +37,9 @@ class Samples:
 
     def read(self, first: int, count: int) -> Array:
         """So many spectra from one on, each a row, polarisations added, the highest channel first, masked ones 0."""
-        added = self.values(first, count).sum(axis=2, dtype=np.uint32)
+        values = self.values(first, count)
+        one = self.header.polarisations == 1
+        added: Array = values[:, :, 0].astype(np.uint32) if one else values.sum(axis=2, dtype=np.uint32)
         ordered: Array = added if self.header.is_falling else added[:, ::-1]
         ordered[:, list(self.header.masked)] = 0
         return ordered
