@@ -5,6 +5,7 @@ use Rattle.std.proofs.lemmas.Bool.{true≢false}
 use Rattle.std.proofs.Math.Nat.{div-add-mod, mod-lt, div-lt_iff_lt-mul, add-mul, mul_comm}
 use Rattle.std.proofs.lemmas.Nat.{div-mul-add}
 use Rattle.band_level.specs.Values.{band, spectrum_bytes}
+use Rattle.band_level.specs.Holding.{held_bytes}
 use Rattle.band_level.specs.Levelled.{first_levels}
 use Rattle.band_level.specs.Levelling.{Levelling, Levels, StandsFor, Waits, IsWhole, Ends, pending, band_of}
 use Rattle.psr_level.specs.Draining.{whole_stretches}
@@ -49,8 +50,8 @@ waiting : (l : Levelling) (bytes out : List ℕ) (start stretch : ℕ) → Stand
     out ≡ whole_stretches l.task bytes
 waiting l bytes out start stretch s made w =
     let whole = begins l start stretch w in
-    let count = stretches (length bytes) (spectrum_bytes l.task.format) l.task.plan.spectra start (length l.held)
-    whole.0 s.place.size w.short whole.1 in
+    let count = stretches (length bytes) (spectrum_bytes l.task.format) l.task.plan.spectra start
+    (held_bytes l.task.format l.held) whole.0 s.place.size w.short whole.1 in
     let first = w.first in
     let same : start + l.first ≡ start = omega arith in
     made ∙ ap (λ (n : ℕ). first_levels l.task (band l.task.format bytes) n) (same ∙ sym count)
