@@ -184,38 +184,38 @@ module _ (h : Holding) (sums : List ℕ) (range : FormatInRange h.format)
   abbrev summed : Holding
   summed = record h { count = h.count + 1; sums = sums; bytes = [] }
 
-  module _ (bytes : List ℕ) (holds : Holds h.format h bytes) where
-    last_is : (i : ℕ) → i < cells h.format → cell_value h.format h.bytes 0 i ≡ cell_value h.format bytes h.count i
-    last_is i here =
+  last_is : (bytes : List ℕ) → Holds h.format h bytes → (i : ℕ) → i < cells h.format
+      → cell_value h.format h.bytes 0 i ≡ cell_value h.format bytes h.count i
+  last_is bytes holds i here =
+      let f = h.format in
+      let n = h.count * spectrum_bytes f in
+      let size = holds.size in
+      ap (λ xs. cell_value f xs 0 i) holds.rest
+      ∙ cell_dropped f bytes n 0 h.count i range (omega arith) (omega (arith, length-drop n bytes)) here
+
+  sum_is : (bytes : List ℕ) → Holds h.format h bytes → (t i : ℕ) → t < h.count + 1 → i < cells h.format
+      → slice_index sums (t * cells h.format + i) ≡ cell_value h.format bytes t i
+  sum_is bytes holds t i lt here = elim (cases_lt t h.count) [
+    | inl earlier ↦
         let f = h.format in
-        let n = h.count * spectrum_bytes f in
-        let size = holds.size in
-        ap (λ xs. cell_value f xs 0 i) holds.rest
-        ∙ cell_dropped f bytes n 0 h.count i range (omega arith) (omega (arith, length-drop n bytes)) here
+        let part : (t + 1) * cells f ≤ h.count * cells f = mul-le-mul_right _ (omega arith) in
+        before (t * cells f + i) (omega (arith, one_more t (cells f))) ∙ holds.sums t i earlier here
+    | inr late ↦
+        let f = h.format in
+        let e : t ≡ h.count = omega arith in
+        ap (λ n. slice_index sums (n * cells f + i)) e ∙ row i here ∙ last_is bytes holds i here
+        ∙ ap (λ n. cell_value f bytes n i) (sym e)
+  ]
 
-    sum_is : (t i : ℕ) → t < h.count + 1 → i < cells h.format
-        → slice_index sums (t * cells h.format + i) ≡ cell_value h.format bytes t i
-    sum_is t i lt here = elim (cases_lt t h.count) [
-      | inl earlier ↦
-          let f = h.format in
-          let part : (t + 1) * cells f ≤ h.count * cells f = mul-le-mul_right _ (omega arith) in
-          before (t * cells f + i) (omega (arith, one_more t (cells f))) ∙ holds.sums t i earlier here
-      | inr late ↦
-          let f = h.format in
-          let e : t ≡ h.count = omega arith in
-          ap (λ n. slice_index sums (n * cells f + i)) e ∙ row i here ∙ last_is i here
-          ∙ ap (λ n. cell_value f bytes n i) (sym e)
-    ]
-
-    holds_sums : Holds h.format summed bytes
-    holds_sums =
-        let size = holds.size in
-        let more = one_more h.count (spectrum_bytes h.format) in
-        record {
-          size = omega arith;
-          sums = sum_is;
-          rest = sym (drop_all ((h.count + 1) * spectrum_bytes h.format) bytes (omega arith));
-        }
+  holds_sums : (bytes : List ℕ) → Holds h.format h bytes → Holds h.format summed bytes
+  holds_sums bytes holds =
+      let size = holds.size in
+      let more = one_more h.count (spectrum_bytes h.format) in
+      record {
+        size = omega arith;
+        sums = sum_is bytes holds;
+        rest = sym (drop_all ((h.count + 1) * spectrum_bytes h.format) bytes (omega arith));
+      }
 
   adds_sums : Puts h.format h summed []
   adds_sums = record {

@@ -54,9 +54,9 @@ pub record HasSpectra (f : Format) (h : Holding) (n : ℕ) : Type 0 where
   pub inside : n * spectrum_bytes f ≤ held_bytes f h
 
 -- a row is written from a place on
-pub record WritesRow (at : ℕ) (row old new : List ℕ) : Type 0 where
+pub record WritesRow (at : ℕ) (values old new : List ℕ) : Type 0 where
   pub long : length new ≡ length old
-  pub row : (i : ℕ) → i < length row → slice_index new (at + i) ≡ slice_index row i
+  pub row : (i : ℕ) → i < length values → slice_index new (at + i) ≡ slice_index values i
   pub before : (k : ℕ) → k < at → slice_index new k ≡ slice_index old k
 
 -- the bytes of a spectrum are there, and become its sums

@@ -11,3 +11,9 @@ returns-clause-len c =
     let same : f.count * f.spectrum ≡ f.count * spectrum_bytes f.format = ap (λ n. f.count * n) inv.spectrum_is in
     subst (λ (o : Holding). f.count * f.spectrum + f.filled ≡ held_bytes o.format o) c.self.view_is
     (omega (arith, length-take-le f.filled f.bytes.items inv.filled_in))
+
+pub overflow_mul-result : goal.overflow_mul-result
+overflow_mul-result c = record { fits = let inside = c.self.invariant.inside in omega arith }
+
+pub overflow_add-result : goal.overflow_add-result
+overflow_add-result c = record { fits = let inside = c.self.invariant.inside in omega arith }
