@@ -1,9 +1,9 @@
 -- What is held of a stretch, as its bytes come.
-use Rattle.std.proofs.Common.{◌≡◌, ℕ, refl, ◌+◌, ◌-◌, ◌*◌, ◌<◌, ◌≤◌, ◌⊎◌, inl, inr, Bool, true, false, cond, ltb, eqb, List, [], ◌++◌, length, take, drop, slice_index, ◌∙◌, sym, ap, subst, arith, length-append, length-drop, append-nil, append_assoc}
-use Rattle.std.proofs.Math.Nat.{mul-le-mul_right}
+use Rattle.std.proofs.Common.{◌≡◌, ℕ, refl, ◌+◌, ◌-◌, ◌*◌, ◌/◌, ◌<◌, ◌≤◌, ◌⊎◌, inl, inr, Bool, true, false, cond, ltb, eqb, List, [], ◌++◌, length, take, drop, slice_index, ◌∙◌, sym, ap, subst, arith, length-append, length-drop, append-nil, append_assoc}
+use Rattle.std.proofs.Math.Nat.{mul-le-mul, mul-le-mul_right}
 use Rattle.std.proofs.lemmas.Bool.{cases_lt, lt-ltb, true≢false}
 use Rattle.std.proofs.lemmas.Bool.Decides.{nat_tests}
-use Rattle.std.proofs.lemmas.List.{get_or_append_left, get_or-drop, drop-append-le, drop_all, take_all}
+use Rattle.std.proofs.lemmas.List.{get_or_append_left, get_or-drop, get_or_past, drop-append-le, drop_all, take_all}
 use Rattle.band_level.specs.declared.format.Format.{Format}
 use Rattle.band_level.specs.Ranges.{FormatInRange}
 use Rattle.band_level.specs.Values.{cells, spectrum_bytes, cell_value, most_value}
@@ -16,7 +16,7 @@ one_more : (n size : ℕ) → (n + 1) * size ≡ n * size + size
 one_more n size = omega arith
 
 -- so many spectra before, and others behind them
-behind : (count more t size : ℕ) → t ≡ count + more → count * size + more * size ≡ t * size
+pub behind : (count more t size : ℕ) → t ≡ count + more → count * size + more * size ≡ t * size
 behind count more t size e = let both : (count + more) * size ≡ t * size = ap (λ n. n * size) (sym e) in omega arith
 
 -- where so many don't fill the room, one more fits
@@ -33,6 +33,25 @@ as_few a b size some fits = elim (cases_lt b a) [
       absurd (omega (arith, one_more b size))
   | inr ge ↦ ge
 ]
+
+-- a spectrum has no more cells than bytes
+few_cells : (f : Format) → FormatInRange f → cells f ≤ spectrum_bytes f
+few_cells f range =
+    let width : 1 ≤ f.bits / 8 = elim range.bits [
+      | inl e ↦ omega arith
+      | inr e ↦ omega arith
+    ] in
+    let one : 1 * cells f ≤ f.bits / 8 * cells f = mul-le-mul_right (cells f) width in
+    let all : 1 * (cells f * (f.bits / 8)) ≤ f.average * (cells f * (f.bits / 8)) =
+    mul-le-mul_right (cells f * (f.bits / 8)) range.some_average in
+    omega arith
+
+-- where the sums of a spectrum begin
+pub place_fits : (f : Format) (t count size room : ℕ) → FormatInRange f → size ≡ spectrum_bytes f → t ≤ count
+    → count * size ≤ room → t * cells f ≤ room
+place_fits f t count size room range is few fits =
+    let part : t * cells f ≤ count * size = mul-le-mul few (omega (arith, few_cells f range)) in
+    omega arith
 
 -- ---- room
 
@@ -122,6 +141,19 @@ pub value_behind : (f : Format) (h : Holding) (t i : ℕ) → h.count ≤ t
 value_behind f h t i ge =
     let test : ltb t h.count ≡ false = grind (arith, nat_tests) in
     ap (λ b. cond b (slice_index h.sums (t * cells f + i)) (cell_value f h.bytes (t - h.count) i)) test
+
+-- a row of sums is as small as they are
+pub read_small : (f : Format) (row sums : List ℕ) (t count wide i : ℕ) → wide ≡ cells f → length row ≡ wide
+    → t < count → ((k : ℕ) → k < count * cells f → slice_index sums k ≤ most_value f)
+    → ((j : ℕ) → j < wide → slice_index row j ≡ slice_index sums (t * wide + j)) → slice_index row i ≤ most_value f
+read_small f row sums t count wide i is long lt small reads = elim (cases_lt i wide) [
+  | inl here ↦
+      let part : (t + 1) * cells f ≤ count * cells f = mul-le-mul_right (cells f) (omega arith) in
+      let at : t * wide ≡ t * cells f = ap (λ n. t * n) is in
+      let last : t * wide + i < count * cells f = omega (arith, one_more t (cells f)) in
+      omega (arith, reads i here, small (t * wide + i) last)
+  | inr past ↦ omega (arith, get_or_past row i 0 (omega arith))
+]
 
 -- they are those of the bytes that came
 pub held_is : (f : Format) (h : Holding) (bytes : List ℕ) (t i : ℕ) → FormatInRange f → Holds f h bytes

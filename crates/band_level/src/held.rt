@@ -145,6 +145,7 @@ impl Held {
         ensures adds { AddsUp self.old self.new }
         ensures limit { 0 < self.new.limit }
     {
+        let _room = self.room;
         read_row(
             self.row.as_mut_slice(),
             self.bytes.as_slice(),
@@ -178,6 +179,7 @@ impl Held {
         ensures len { result ≡ held_bytes self.now.format self.now }
         ensures inside { result ≤ self.now.room }
     {
+        let _room = self.room;
         self.count * self.spectrum + self.filled
     }
 
@@ -216,6 +218,7 @@ impl Held {
             → slice_index row.new i ≡ held_value format self.now t i }
         ensures small { (i : ℕ) → slice_index row.new i ≤ most_value format }
     {
+        let _room = self.room;
         if t < self.count {
             self.sums.read(t * row.len(), row);
         } else {

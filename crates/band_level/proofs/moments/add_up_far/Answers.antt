@@ -1,4 +1,4 @@
-use Rattle.std.proofs.Common.{arith}
+use Rattle.std.proofs.Common.{◌+◌, arith}
 use Rattle.band_level.proofs.Columns.{sums_more}
 use Rattle.band_level.proofs.Puts.{has_fewer}
 use Rattle.band_level.proofs.moments.add_up_far.Goals as goal
