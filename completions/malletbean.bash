@@ -19,9 +19,7 @@ _malletbean() { # _malletbean COMMAND WORD PREVIOUS_WORD
         psr_part)
             options='--mean --sd --snr --max-delay --min-delay --widths --max-candidates --max-bytes --buffers --size
                 --chunk' ;;
-        psr_live)
-            options='--mean --sd --snr --max-delay --min-delay --widths --max-candidates --max-bytes --buffers --size
-                --chunk' ;;
+        psr_live) options='--mean --sd --snr --max-delay --min-delay --widths --max-candidates --max-bytes --size' ;;
         psr_beams)
             options='--mean --sd --snr --max-delay --min-delay --widths --fold-max --fold-min --fold-rows --fold-step
                 --max-candidates --max-bytes --buffers --size --chunk --turns' ;;

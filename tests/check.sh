@@ -3,11 +3,14 @@
 # observation of 1024 channels is searched by four shards and recorded in three files; one shard, the three files, and
 # psr_record give the same again; a file that exists is never overwritten; psr_mask with no mask, two parts of psr_part
 # and each of two beams of psr_beams give the output of the search, but that both beams see its pulses; psr_level
-# writes the same of one file, of three, and of a pipe, and a search of it through a pipe finds pulses.
+# writes the same of one file, of three, and of a pipe, and a search of it through a pipe finds pulses; psr_live gives
+# the output of the search, but for its CHECK lines, and goes on from one of them; a pipe that is recorded, levelled and
+# searched live gives the same as the recorded files, levelled and searched.
 # Statuses: 0; 1 if something differs; 2 if a program is missing.
 set -u
 . "$(dirname "$0")/../bench/common.bash"
-find_programs "${1:-}" psr_make psr_search psr_record psr_level psr_demo psr_mask psr_part psr_beams
+find_programs "${1:-}" psr_make psr_search psr_record psr_level psr_demo psr_mask psr_part psr_beams psr_live \
+    ring_trace
 make_folder
 cd "$folder" || exit 2
 
@@ -68,6 +71,34 @@ same 'psr_level of the recorded files' "$(tail -c +4097 again | md5sum)" "$(tail
 "${at[psr_level]}" --spectra 512 /dev/stdin <obs.dada | "${at[psr_search]}" --mean 64 --sd 8 --max-delay 512 \
     --max-candidates 1000000 /dev/stdin | tail -n 1 >again
 same 'psr_search of what it wrote, through a pipe' "$(cat again)" 'END 325 0 4096'
+
+"${at[psr_live]}" 1024 new "${arguments[@]}" obs.dada >live
+same 'psr_live: status' $? 0
+same 'its output without CHECK lines' "$(grep -v '^CHECK' live | md5sum)" "$(md5sum <text)"
+same 'its CHECK lines' "$(grep '^CHECK' live | cut -d ' ' -f 2 | paste -sd ' ')" '1024 2048 3072'
+sed -n '/^CHECK 2048/p' live >check
+"${at[psr_live]}" 1024 check "${arguments[@]}" /dev/stdin <obs.dada >rest
+same 'psr_live from 2048 on: status' $? 0
+same 'its output' "$(md5sum <rest)" "$(sed '1,/^CHECK 2048/d' live | md5sum)"
+
+# a night: recorded, levelled and searched while the data come; then from the recorded files on
+mkdir night && cd night || exit 2
+levelled=(--mean 64 --sd 8 --snr 8 --max-delay 512 --widths 1 /dev/stdin)
+tee -p >("${at[psr_record]}" /dev/stdin) <../obs.dada | "${at[psr_level]}" --spectra 512 /dev/stdin |
+    "${at[psr_live]}" 1024 new "${levelled[@]}" >found
+same 'a night: statuses' "${PIPESTATUS[*]}" '0 0 0'
+for ((tries = 0; tries < 100; tries++)); do # the recorder may end after the search
+    [ "$(stat -c %s 2024-*.dada 2>/dev/null)" != "$(stat -c %s ../obs.dada)" ] || break
+    sleep 0.1
+done
+sed -n '/^CHECK 3072/p' found >check
+"${at[psr_level]}" --spectra 512 2024-*.dada | "${at[psr_live]}" 1024 check "${levelled[@]}" >rest
+same 'the night from its recorded files on' "$(md5sum <rest)" "$(sed '1,/^CHECK 3072/d' found | md5sum)"
+same 'its last line' "$(tail -n 1 rest | cut -d ' ' -f 1,3,4)" 'END 0 4096'
+cd .. || exit 2
+
+printf '%s\n' 'ring 2 1 8' take 'seal 70' 'read 0' 'give 0' 'clear 0' 'read 0' >trace
+same 'ring_trace' "$("${at[ring_trace]}" trace | paste -sd ,)" 'taken 0,sealed 0,got 0 70,given,cleared 1,empty 1'
 
 before=$(md5sum 2024-*.dada)
 "${at[psr_search]}" "${recording[@]}" obs.dada >again 2>notes

@@ -41,8 +41,8 @@ def parsed(words: Sequence[str]) -> argparse.Namespace:
     parser.add_argument("output", metavar="FIL", help="the filterbank to write: a new file")
     parser.add_argument("--from", metavar="SECONDS", dest="begin", type=seconds, default=0.0,
                         help="where the part begins, after the beginning of FILE (0)")
-    parser.add_argument("--length", metavar="SECONDS", type=seconds, help="how long it is (up to the end)")
-    parser.add_argument("--next", metavar="FILE", nargs="+", default=[], help="the observation's files behind FILE")
+    parser.add_argument("--length", metavar="SECONDS", type=seconds, help="how long the part is (up to the end)")
+    parser.add_argument("--next", metavar="FILE", nargs="+", default=[], help="the files of the observation after FILE")
     return parser.parse_args(words)
 
 

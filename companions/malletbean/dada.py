@@ -65,8 +65,8 @@ def parsed(words: Sequence[str]) -> argparse.Namespace:
                         help=f"how the values follow each other, in place of ORDER ({USUAL_ORDER}): T time, F channel, "
                              "P polarisation, the slowest first")
     parser.add_argument("--pol", metavar="K", dest="only", type=int,
-                        help="this polarisation alone, counted from 0; else those that a search adds, by STATE")
-    parser.add_argument("--values", choices=("int", "float"), help="what values of 32 bits are; else as they look")
+                        help="take this polarisation alone, counted from 0 (those that a search adds, by STATE)")
+    parser.add_argument("--values", choices=("int", "float"), help="what values of 32 bits are (what they look like)")
     parser.add_argument("--signed", action="store_true", help="whole numbers are signed")
     parser.add_argument("--high-byte-first", action="store_true", help="the high byte of a value is first")
     return parser.parse_args(words)

@@ -42,9 +42,9 @@ def parsed(words: Sequence[str]) -> argparse.Namespace:
                         help="a SIGPROC filterbank of 1, 2, 4, 8, 16 or 32 bits, or several that follow one another")
     parser.add_argument("output", metavar="OUT", help="the DADA file to write: a new file")
     parser.add_argument("--if", metavar="K", dest="only", type=int,
-                        help="this IF alone, counted from 0; else all of one or two")
+                        help="take this IF alone, counted from 0 (all of one or two)")
     parser.add_argument("--keyword", metavar="NAME=KIND", type=keyword_kind, action="append",
-                        help=f"a keyword that SIGPROC doesn't have, which is passed over: its value is one of "
+                        help="skip this keyword, which SIGPROC doesn't have, with a value of this KIND: "
                              f"{', '.join(KIND_NAMES)}")
     return parser.parse_args(words)
 

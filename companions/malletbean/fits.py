@@ -44,7 +44,7 @@ def parsed(words: Sequence[str]) -> argparse.Namespace:
                         help="a search-mode PSRFITS file, or several of one observation that follow one another")
     parser.add_argument("output", metavar="OUT", help="the DADA file to write: a new file")
     parser.add_argument("--pol", metavar="K", dest="only", type=int,
-                        help="this polarisation alone, counted from 0; else those that a search adds, by POL_TYPE")
+                        help="take this polarisation alone, counted from 0 (those that a search adds, by POL_TYPE)")
     return parser.parse_args(words)
 
 

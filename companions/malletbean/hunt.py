@@ -89,16 +89,16 @@ def parsed(words: Sequence[str]) -> argparse.Namespace:
     parser.add_argument("-o", "--output", metavar="FOLDER", dest="folder", required=True,
                         help="the folder for all output; the same command continues a hunt that was stopped")
     parser.add_argument("--snr", metavar="S", type=decimal, default=USUAL_SNR,
-                        help=f"the minimum true S/N of pulses that are to be found ({USUAL_SNR})")
+                        help=f"the minimum true S/N of the pulses to find ({USUAL_SNR})")
     parser.add_argument("--widths", metavar="W", type=int,
                         help="the widest pulse to look for, in spectra of FILE (those of 32 ms)")
     parser.add_argument("--mask", metavar="MASK", default="auto",
                         help="channels to leave out: auto (those that look bad; the default), none, or a mask as "
                              "psr_mask takes it")
     parser.add_argument("--clip", metavar="Z", type=decimal,
-                        help="leave out spectra whose sum over the band is more than Z deviations off: interference")
+                        help="leave out spectra whose sum over the band is more than Z deviations off (off)")
     parser.add_argument("--keep-bursts", action="store_true",
-                        help="also search bursts of interference in parts of the band, which are replaced otherwise")
+                        help="also search bursts of interference in parts of the band (the mean replaces them)")
     parser.add_argument("--cores", metavar="C", type=int, default=len(os.sched_getaffinity(0)),
                         help="how many jobs run at a time (one on each core)")
     engine = parser.add_mutually_exclusive_group()

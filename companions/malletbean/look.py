@@ -102,8 +102,8 @@ def parsed(words: Sequence[str]) -> argparse.Namespace:
     parser.add_argument("dm", metavar="DM", nargs="?", type=dispersion_measure, help="a dispersion measure in pc/cm^3")
     parser.add_argument("--megabytes", metavar="N", type=positive, default=64.0,
                         help="how much of a file is read (64); a pipe is read to its end")
-    parser.add_argument("--mask", metavar="MASK", help="channels to leave out, in place of those that stand out")
-    parser.add_argument("--channels", action="store_true", help="each channel's mean and deviation besides")
+    parser.add_argument("--mask", metavar="MASK", help="channels to leave out (those that look bad)")
+    parser.add_argument("--channels", action="store_true", help="also print the mean and deviation of each channel")
     return parser.parse_args(words)
 
 

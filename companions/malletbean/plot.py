@@ -75,12 +75,13 @@ def finish(figure: Figure, asked: argparse.Namespace) -> None:
 
 def parsed(words: Sequence[str]) -> argparse.Namespace:
     """The words of the command."""
-    parser = Words(prog="psr_plot", description="Draws the output of a search; beams side by side.")
+    parser = Words(prog="psr_plot", description="Draws the output of a search, and beams side by side.")
     add_search_words(parser)
-    parser.add_argument("-o", "--output", metavar="PICTURE", help="a new picture: .png, .svg or .pdf")
-    parser.add_argument("--show", action="store_true", help="a window with the picture")
-    parser.add_argument("--fold", metavar="K", help="the profile of FOLD line K, counted from 0, or of the `best`")
-    parser.add_argument("--next", metavar="FILE", nargs="+", default=[], help="the observation's files behind FILE")
+    parser.add_argument("-o", "--output", metavar="PICTURE",
+                        help="the picture to write: .png, .svg or .pdf; an existing one is replaced")
+    parser.add_argument("--show", action="store_true", help="show the picture in a window")
+    parser.add_argument("--fold", metavar="K", help="add the profile of FOLD line K, counted from 0, or of the `best`")
+    parser.add_argument("--next", metavar="FILE", nargs="+", default=[], help="the files of the observation after FILE")
     asked = parser.parse_args(words)
     if asked.output is None and not asked.show:
         raise Refusal(WORDS, "give -o PICTURE or --show")

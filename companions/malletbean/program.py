@@ -115,11 +115,11 @@ def add_search_words(words: Words) -> None:
     words.add_argument("mean", metavar="MEAN", type=noise_value, help="the mean that the search was given")
     words.add_argument("deviation", metavar="SD", type=noise_value, help="the deviation that the search was given")
     words.add_argument("text", metavar="TEXT", help="the output of the search")
-    words.add_argument("--obs", metavar="K", type=int, help="which observation, if the output has several")
-    words.add_argument("--beam", metavar="K", type=int, help="which beam of psr_beams")
+    words.add_argument("--obs", metavar="K", type=int, help="the observation to take, if the output has several")
+    words.add_argument("--beam", metavar="K", type=int, help="the beam to take, of psr_beams")
     words.add_argument("--mask", metavar="MASK", default="none", help="the mask that psr_mask was given")
     words.add_argument("--part", action="store_true",
-                       help="a last part of psr_part: its END line counts the pulses of earlier parts too")
+                       help="TEXT is a last part of psr_part, whose END line counts the pulses of earlier parts too")
 
 
 def check_output(words: argparse.Namespace, suffixes: tuple[str, ...]) -> None:

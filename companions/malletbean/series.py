@@ -53,7 +53,7 @@ def parsed(words: Sequence[str]) -> argparse.Namespace:
     parser.add_argument("-o", "--output", metavar="NAME", required=True,
                         help="the files are NAME_DM12.345.dat, .inf and .tim; existing ones are replaced")
     parser.add_argument("--fold", metavar="SECONDS", type=period, help="also draw a fold at this period")
-    parser.add_argument("--next", metavar="FILE", nargs="+", default=[], help="the observation's files behind FILE")
+    parser.add_argument("--next", metavar="FILE", nargs="+", default=[], help="the files of the observation after FILE")
     parser.add_argument("--mask", metavar="MASK", default="none", help="channels to leave out, as psr_mask names them")
     asked = parser.parse_args(words)
     if not asked.dms and not asked.delay:

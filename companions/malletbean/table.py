@@ -70,9 +70,9 @@ def parsed(words: Sequence[str]) -> argparse.Namespace:
     parser.add_argument("-o", "--output", metavar="NAME",
                         help="NAME.csv, NAME.npz or NAME.singlepulse, with --best also NAME.json or NAME.cand; "
                              "standard output as .csv without it")
-    parser.add_argument("--folds", action="store_true", help="the FOLD lines in the .csv, in place of the PULSE lines")
+    parser.add_argument("--folds", action="store_true", help="write FOLD lines as .csv, in place of PULSE lines")
     parser.add_argument("--best", metavar="N", type=int,
-                        help="a view: the N strongest candidates, each of neighbouring lines")
+                        help="write the N strongest candidates instead, each a group of neighbouring lines")
     asked = parser.parse_args(words)
     if asked.best is not None and asked.best < 1:
         raise Refusal(WORDS, "argument --best: it is below 1")

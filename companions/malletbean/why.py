@@ -447,8 +447,8 @@ class Arguments(argparse.ArgumentParser):
 def main(arguments: Sequence[str]) -> int:
     """Says why the command that the arguments are is refused, and answers the status of psr_why."""
     parser = Arguments("psr_why", description="Says in one sentence why a proved program refuses its arguments.")
-    parser.add_argument("program", metavar="PROGRAM", help="the program, as psr_search")
-    parser.add_argument("arguments", metavar="ARGUMENT", nargs=argparse.REMAINDER, help="what it was given")
+    parser.add_argument("program", metavar="PROGRAM", help="a proved program, for example psr_search")
+    parser.add_argument("arguments", metavar="ARGUMENT", nargs=argparse.REMAINDER, help="its arguments")
     asked = parser.parse_args(arguments)
     name = name_of(asked.program)
     if name in COMPANIONS:

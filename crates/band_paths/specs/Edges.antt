@@ -8,7 +8,7 @@ use Rattle.std.specs.Prelude.{◌≡◌, ℕ, ◌+◌, ◌-◌, ◌^◌, ◌≤�
 abbrev pub most_sample : ℕ
 most_sample = 2 ^ 20
 
--- how many channels there are between so many edges
+-- the number of channels between these edges
 abbrev pub channels_of : List ℕ → ℕ
 channels_of edges = length edges - 1
 

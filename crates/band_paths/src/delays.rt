@@ -21,9 +21,8 @@ fn square(khz: u32) -> u128
     u128::from(khz) * u128::from(khz)
 }
 
-/// The share of the channels from `lo` up to `m` in a delay of `d` spectra that the channels from
-/// `lo` up to `hi` have together, rounded to the nearest spectrum. The edges are in kHz, the highest
-/// first.
+/// Splits a delay of `d` spectra over the channels from `lo` up to `hi`: the part of it in the channels from `lo` up to
+/// `m`, rounded to the nearest spectrum. The edges are in kHz, the highest first.
 pub fn split(edges: &[u32], lo: usize, m: usize, hi: usize, d: u32) -> u32
     requires edges { AreEdges (channels_of edges.now) edges.now }
     requires above { lo < m }
@@ -38,7 +37,7 @@ pub fn split(edges: &[u32], lo: usize, m: usize, hi: usize, d: u32) -> u32
     share(edges[lo], edges[m], edges[hi], d)
 }
 
-// The share of the part above `mid` in a delay of `d` between `high` and `low`.
+// The part between `high` and `mid` of a delay of `d` spectra between `high` and `low`, all three in kHz.
 fn share(high: u32, mid: u32, low: u32, d: u32) -> u32
     requires top { high ≤ top_khz }
     requires above { mid < high }
@@ -53,7 +52,7 @@ fn share(high: u32, mid: u32, low: u32, d: u32) -> u32
     rounded(part, whole, d)
 }
 
-// `d * part / whole`, rounded to the nearest number, halves up.
+// `d * part / whole`, rounded to the nearest integer, halves up.
 fn rounded(part: u128, whole: u128, d: u32) -> u32
     requires part { part < whole }
     requires whole { whole ≤ 2 ^ 96 }
@@ -65,8 +64,8 @@ fn rounded(part: u128, whole: u128, d: u32) -> u32
     ((2 * u128::from(d) * part + whole) / (2 * whole)) as u32
 }
 
-/// The delay path of `d` spectra: for each edge, how many spectra after the top of the band the pulse
-/// passes it, from 0 to `d`; or that there is no memory. The edges are in kHz, the highest first.
+/// The delay path of `d` spectra: for each edge, how many spectra after the top of the band the pulse passes it, from 0 to
+/// `d`. The edges are in kHz, the highest first.
 pub fn edge_delays(alloc: Global, edges: &[u32], d: u32) -> Result<Vec<u32>, Memory>
     requires edges { AreEdges (channels_of edges.now) edges.now }
     requires delay { d ≤ most_delay }
@@ -95,7 +94,7 @@ fn lay_path(edges: &[u32], delays: &mut [u32], d: u32)
     halve(edges, delays, 0, channels);
 }
 
-// Fills in the delays between the edges `lo` and `hi`, whose own delays stand.
+// Fills in the delays between the edges `lo` and `hi`, whose own delays are set.
 fn halve(edges: &[u32], delays: &mut [u32], lo: usize, hi: usize)
     requires edges { AreEdges (channels_of edges.now) edges.now }
     requires entries { length delays.old ≡ length edges.now }

@@ -4,9 +4,9 @@ ghost use Rattle.search_model.specs.Samples.{filterbank, sample_before};
 ghost use Rattle.search_model.specs.Sums.{channel_cells, path_sum_along};
 ghost use Rattle.band_paths.specs.Edges.{AreDelays, most_sample};
 
-/// The sum of the samples on a path that ends at spectrum `u`, cell by cell. `samples` are spectra
-/// of `n` values, the highest channel first, where an incomplete last one is left out; `delays` are
-/// those of the path at the `n + 1` edges. Before the first spectrum each cell is 0.
+/// The sum of the samples on a path that ends at spectrum `u`. `samples` are spectra of `n` values, the highest channel
+/// first; an incomplete last spectrum is ignored. `delays` are those of the path at the `n + 1` edges. Before the first
+/// spectrum all samples count 0.
 pub fn path_sum(samples: &[u32], n: usize, delays: &[u32], u: usize) -> u64
     requires least { 2 ≤ n }
     requires most { n ≤ 4096 }
@@ -48,7 +48,7 @@ fn channel_sum(samples: &[u32], n: usize, c: usize, delays: &[u32], u: usize) ->
     total
 }
 
-// What channel `c` holds in spectrum `s - d`, and 0 before the first spectrum.
+// The sample of channel `c` in spectrum `s - d`, or 0 before the first spectrum.
 fn cell(samples: &[u32], n: usize, c: usize, s: usize, d: usize) -> u32
     requires channel { c < n }
     requires end { s < length samples.now / n + d }

@@ -1,4 +1,4 @@
-// Whether books can be merged, judged candidate by candidate.
+// Checking whether books can be merged, candidate by candidate.
 ghost use Rattle.std.specs.Prelude.{◌<◌, IsTrue, Contains, map};
 ghost use Rattle.candidate_book.specs.Conditions.{IsSearched, CanBeMerged};
 ghost use Rattle.search_model.specs.Order.{Precedes};
@@ -15,14 +15,14 @@ use search_model::{MOST_SHARDS, order_is_strict};
 
 const WIDTHS: [u32; 6] = [1, 2, 4, 8, 16, 32];
 
-// Whether a box can have the width.
+// Whether a box can have this width.
 fn is_width(width: u32) -> bool
     ensures { IsTrue result → Contains box_widths width }
 {
     WIDTHS.contains(&width)
 }
 
-// Whether a search can have the candidate.
+// Whether a search can find the candidate.
 fn is_searched(candidate: &Candidate) -> bool
     ensures { IsTrue result → IsSearched candidate.now }
 {
@@ -36,7 +36,7 @@ fn is_searched(candidate: &Candidate) -> bool
     }
 }
 
-// Whether a candidate stands behind the last one, if there is one.
+// Whether a candidate comes after the last one, or there is no last one.
 fn comes_after(last: &Option<Candidate>, candidate: &Candidate) -> bool
     ensures { IsTrue result → ForSome last.now (λ before. Precedes before candidate.now) }
 {
@@ -46,7 +46,7 @@ fn comes_after(last: &Option<Candidate>, candidate: &Candidate) -> bool
     }
 }
 
-// Whether a candidate can stand behind the last one of a book whose delays have remainder `k` by `n`.
+// Whether a candidate can come after the last one of a book whose delays have the remainder `k` modulo `n`.
 fn continues(n: u32, k: u32, last: &Option<Candidate>, candidate: &Candidate) -> bool
     requires { 0 < n }
     ensures { IsTrue result → Continues n k last.now candidate.now }
@@ -54,7 +54,7 @@ fn continues(n: u32, k: u32, last: &Option<Candidate>, candidate: &Candidate) ->
     comes_after(last, candidate) && is_searched(candidate) && candidate.delay() % n == k
 }
 
-/// Whether a list is in order, with delays of remainder `k` by `n`.
+/// Whether a list is in order and all its delays have the remainder `k` modulo `n`.
 pub fn is_part(n: u32, k: u32, list: &[Candidate]) -> bool
     requires { 0 < n }
     ensures { IsTrue result → IsPart n k list.now }
@@ -70,7 +70,7 @@ pub fn is_part(n: u32, k: u32, list: &[Candidate]) -> bool
     true
 }
 
-/// Whether at most 7 books are in order and share the delays by their remainders.
+/// Whether there are at most 7 books, each is in order, and they share the delays by their remainders.
 pub fn can_be_merged(books: &[Option<Book>]) -> bool
     ensures { IsTrue result → CanBeMerged books.now }
 {

@@ -1,10 +1,11 @@
-// Lines with other labels than those of a search over all channels.
+// Lines with other labels than those of a search without a mask.
 use crate::checks::is_part;
 use candidate_book::{Candidate, LineLabels, PulseWord, Totals, write_lines};
 use obs_plan::Observation;
 use psr_base::Sink;
 
-// The first of two channels is left out, and pulses that end at spectrum 9 are taken for interference.
+// Labels of a search that leaves out the first of two channels, and takes pulses that end at spectrum 9 for
+// interference.
 #[derive(Drop)]
 struct Marks;
 
@@ -29,7 +30,8 @@ impl LineLabels for Marks {
     }
 }
 
-/// Writes the lines of a list that is in order, with such labels: how many there are, if that succeeded.
+/// Writes the lines of a list with such labels, if the list is in order. Returns the number of pulses and of folds, or
+/// `None` if it failed.
 pub fn write_marked<K: Sink>(list: &[Candidate], obs: &Observation, out: &mut K) -> Option<Totals> {
     if !is_part(1, 0, list) {
         return None;

@@ -1,4 +1,4 @@
-// Books and observations that are made for tests and measurements.
+// Books and observations for tests and measurements.
 use arrayvec::ArrayVec;
 use candidate_book::{Book, Candidate};
 use dada_header::Header;
@@ -18,7 +18,7 @@ BW -200
 OBS_OFFSET 0
 ";
 
-/// The observation of two channels, from 1500 down to 1300 MHz.
+/// An observation of two channels, from 1500 down to 1300 MHz.
 pub fn observation(alloc: Global) -> Option<Observation> {
     let mut bytes = Vec::from_slice(alloc, HEADER.as_bytes()).ok()?;
     bytes.resize(4096, 0).ok()?;
@@ -26,7 +26,7 @@ pub fn observation(alloc: Global) -> Option<Observation> {
     Observation::of(alloc, &header).ok()
 }
 
-/// The book of a list.
+/// A book with a limit, to which the candidates of a list were added.
 pub fn book_of(alloc: Global, limit: u32, list: &[Candidate]) -> Result<Book, Memory> {
     let mut book = Book::open(alloc, limit)?;
     for candidate in list {
@@ -35,7 +35,7 @@ pub fn book_of(alloc: Global, limit: u32, list: &[Candidate]) -> Result<Book, Me
     Ok(book)
 }
 
-/// Pulses of one delay, one for each of the first spectra.
+/// `count` pulses of one delay, which end at the first spectra, one at each.
 pub fn pulses(alloc: Global, delay: u32, count: u32) -> Result<Vec<Candidate>, Memory> {
     let mut list = Vec::with_capacity(alloc, count as usize)?;
     for end in 0..count {
@@ -49,7 +49,7 @@ pub fn pulses(alloc: Global, delay: u32, count: u32) -> Result<Vec<Candidate>, M
     Ok(list)
 }
 
-/// Seven books of so many pulses each, with the delays 0 to 6.
+/// Seven books of `count` pulses each, with the delays 0 to 6.
 pub fn seven_books(alloc: Global, count: u32) -> Result<Vec<Option<Book>>, Memory> {
     let mut books = Vec::new(alloc);
     for delay in 0..7 {
@@ -99,7 +99,7 @@ fn odd() -> [Candidate; 4] {
     ]
 }
 
-/// The books of two transfers: of even and odd delays, and of nothing.
+/// The books of two transfers: the first has one of even and one of odd delays, the second an empty one.
 pub fn two_transfers(alloc: Global) -> Result<[ArrayVec<Option<Book>, MOST_SHARDS>; 2], Memory> {
     let mut first = ArrayVec::new();
     first.push(Some(book_of(alloc, 4, &even())?));

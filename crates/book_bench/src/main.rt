@@ -1,8 +1,8 @@
-//! Writes the text of candidates that stand in seven books.
+//! Writes the lines of the candidates of seven books.
 //!
-//! With no words there are a few of them, and then small books of one and of two transfers, and of sinks that fail what
-//! they have of a text, and lines with other labels. With a word COUNT each book has so many. The notes tell how long
-//! the books took to make, and how long with the writing.
+//! Without arguments, it writes them for a few candidates, then for the books of one and of two transfers, with other
+//! labels, and to sinks that fail. With the argument COUNT, each of the seven books has COUNT candidates. The notes on
+//! standard error tell how long it took to make the books, and how long it took to make and write them.
 #![tactic(auto)]
 
 mod checks;
@@ -18,10 +18,10 @@ use std::time::Instant;
 use std::{env, io};
 use texts::{show_texts, write_text};
 
-/// How many candidates each book has where no word says so.
+/// The number of candidates of each book if there is no argument.
 const FEW: u32 = 2;
 
-// Writes the text of books: how many pulses there are, if that succeeded.
+// Writes the lines of books. Returns the number of pulses, or `None` if it failed.
 fn write_pulses<R: AllocGlobal, K: Sink>(
     rt: &R,
     books: &[Option<Book>],
@@ -31,7 +31,7 @@ fn write_pulses<R: AllocGlobal, K: Sink>(
     Some(write_text(books, &obs, 1_000_000, out)?.pulses)
 }
 
-// Makes seven books and writes their text to the output.
+// Makes seven books and writes their lines to the standard output.
 fn show<R: AllocGlobal + Print + Eprint + Clock>(rt: &R, count: u32) -> io::Result<()> {
     let start = Instant::now(rt)?;
     let Ok(books) = seven_books(rt.alloc(), count) else {

@@ -1,4 +1,4 @@
-// The texts of books: what stands in them, in which order, and what a sink has of them that fails.
+// What is written of books: their lines, the order of these, and what a sink has that fails.
 use crate::checks::{can_be_merged, can_be_written};
 use crate::labelled::write_marked;
 use crate::made::{book_of, even, observation, seven_books, two_transfers};
@@ -11,7 +11,7 @@ use std::alloc::Global;
 use std::io;
 use transfer_text::write_texts;
 
-/// Writes the text of books, if they can be merged: how much there is, if that succeeded.
+/// Writes the lines of books, if they can be merged. Returns the number of pulses and of folds, or `None` if it failed.
 pub fn write_text<K: Sink>(
     books: &[Option<Book>],
     obs: &Observation,
@@ -24,7 +24,7 @@ pub fn write_text<K: Sink>(
     write_merged(books, obs, spectra, out).ok()
 }
 
-// Writes the texts of transfers, if they can be written, and says whether that succeeded.
+// Writes the lists of all transfers, if they can be written. Returns whether that succeeded.
 fn are_written<K: Sink>(
     observations: &[Option<Observation>],
     books: &[ArrayVec<Option<Book>, MOST_SHARDS>],
@@ -39,15 +39,15 @@ fn are_written<K: Sink>(
 
 // ---- sinks that fail
 
-// Whether a sink that takes less has a front of the text of books.
+// Whether a sink that fails has a front of the output.
 fn has_front(books: &[Option<Book>], obs: &Observation, whole: &[u8], sink: &mut MemSink) -> bool {
     write_text(books, obs, 60, sink).is_none()
         && sink.body().len() < whole.len()
         && whole.starts_with(sink.body())
 }
 
-// Whether sinks have fronts of a text that is written in three calls, of which one fails, or with too little room, and
-// one with just enough has the whole.
+// Whether sinks have a front of an output that is written in three calls, if one of the calls fails or there is too
+// little room, and all of it if the room is just enough.
 fn have_fronts(
     alloc: Global,
     books: &[Option<Book>],
@@ -68,7 +68,7 @@ fn have_fronts(
     Some(write_text(books, obs, 60, &mut exact).is_some() && exact.body() == whole)
 }
 
-// The same of seven books.
+// Whether the sinks have such fronts of the output for seven books.
 fn are_fronts(alloc: Global) -> Option<bool> {
     let obs = observation(alloc)?;
     let books = seven_books(alloc, 60).ok()?;
@@ -77,7 +77,7 @@ fn are_fronts(alloc: Global) -> Option<bool> {
     have_fronts(alloc, books.as_slice(), &obs, whole.body())
 }
 
-// Whether a sink with little room has a front of the texts of two transfers.
+// Whether a sink with little room has a front of the output for two transfers.
 fn is_front(alloc: Global) -> Option<bool> {
     let observations = [observation(alloc), observation(alloc)];
     let books = two_transfers(alloc).ok()?;
@@ -90,7 +90,7 @@ fn is_front(alloc: Global) -> Option<bool> {
 
 // ---- what is printed
 
-// How many candidates of four are kept and counted by a book with this limit.
+// How many of four candidates a book with this limit keeps, and how many it counts.
 fn counts_of(alloc: Global, limit: u32) -> Option<(usize, u64)> {
     let book = book_of(alloc, limit, &even()).ok()?;
     let list = even();
@@ -100,7 +100,7 @@ fn counts_of(alloc: Global, limit: u32) -> Option<(usize, u64)> {
     Some((book.kept().len(), book.count()))
 }
 
-// Writes the texts of two transfers, of the first alone, and of no books.
+// Writes the output for two transfers, for the first one alone, and for no books.
 fn are_all_written<K: Sink>(alloc: Global, out: &mut K) -> Option<Totals> {
     let observations = [observation(alloc), observation(alloc)];
     let books = two_transfers(alloc).ok()?;
@@ -116,7 +116,7 @@ fn are_all_written<K: Sink>(alloc: Global, out: &mut K) -> Option<Totals> {
     }
 }
 
-/// Prints the texts of few books, lines with other labels, and what came of sinks that fail.
+/// Prints the output for a few books and for lines with other labels, and what sinks have that fail.
 pub fn show_texts<R: AllocGlobal + Print + Eprint>(rt: &R) -> io::Result<()> {
     let alloc = rt.alloc();
     if let Some(totals) = are_all_written(alloc, &mut RealSink::out(rt)) {

@@ -12,7 +12,7 @@ sum_ending xs k w = sum (drop (k + 1 - w) (take (k + 1) xs))
 abbrev pub ending_in_feed : List ℕ → List ℕ → ℕ → ℕ → ℕ
 ending_in_feed xs feed k w = sum_ending (xs ++ feed) (length (xs ++ feed) - length feed + k) w
 
--- the same, value by value: the i-th before place k, or 0 before the first
+-- the value i places before place k; 0 before the first
 abbrev pub value_before : List ℕ → ℕ → ℕ → ℕ
 value_before xs k i = if nat_le i k then slice_index xs (k - i) else 0
 

@@ -57,7 +57,8 @@ FeedsRow b c d feed = (xs : List ℕ) → StandsForRow b d xs → StandsForRow c
 
 -- each row but row d stands for what it stood for before
 abbrev pub LeavesOthers : RowTails → RowTails → ℕ → Type 0
-LeavesOthers b c d = (e : ℕ) (xs : List ℕ) → KeepsRow b e → e ≢ d → StandsForRow b e xs → StandsForRow c e xs
+LeavesOthers b c d =
+    (e : ℕ) (xs : List ℕ) → KeepsRow b e → e ≢ d → StandsForRow b e xs → StandsForRow c e xs
 
 -- both are opened alike
 pub record AreAlike (b c : RowTails) : Type 0 where
@@ -67,8 +68,8 @@ pub record AreAlike (b c : RowTails) : Type 0 where
   pub widest : b.widest ≡ c.widest
   pub bound : b.bound ≡ c.bound
 
--- the sums of two rows can be fed to row d, where boxes are wider than one value, and be judged by
--- least sums, which are there, or not, for the widths 1, 2, 4 and so on up to some width
+-- the sums of two rows can be fed to row d, if boxes are wider than one value, and be judged by
+-- thresholds, each there or not, for the widths 1, 2, 4 and so on up to some width
 pub record CanFeedHalves (b : RowTails) (d : ℕ) (upper lower : List ℕ)
     (leasts : List (Option ℕ)) : Type 0 where
   pub row : KeepsRow b d

@@ -15,20 +15,21 @@ use psr_base::Memory;
 use std::alloc::Global;
 use std::marker::Model;
 
-/// How many widths a box can have.
+/// The number of widths that a box can have.
 const LEVELS: usize = 6;
 
 /// How many values are copied in a step.
 const LANES: usize = 16;
 
-/// Rows that are fed in pieces, with the sums of the values that end at each place of the last feed. `feed_row` and
-/// `sum` serve all rows. A search that looks at few of them calls `feed_unkept` and `may_reach`, and only for these
-/// `keep_newest` and then `kept_sum`. Where a row is the sums of two rows of 16 bits, `feed_quiet` feeds it without
-/// making it, unless a box may reach a least sum. Memory for kept rows is used only up to the kept row with the highest
-/// number.
+/// Rows that are fed in pieces, and sums of neighbouring values (boxes) that end at any place of the last feed.
 ///
-/// `boxes` is where the sums of the row that was fed last are added up, of two values, four and so on, and `greatest`
-/// has the greatest of each width. So far `made` of these widths are.
+/// `feed_row` and `sum` serve all rows. A search that reads boxes of few rows calls `feed_unkept` and `may_reach`, and
+/// only for these few `keep_newest` and then `kept_sum`. If a row is the sum of two rows of 16 bits, `feed_quiet` feeds
+/// it without making it, unless a box may reach its threshold. Memory for kept rows is used only up to the kept row
+/// with the highest number.
+///
+/// `boxes` has the boxes of the row that was fed last, of two values, four and so on, and `greatest` the greatest of
+/// each width. `made` of these widths are made so far.
 #[derive(Drop)]
 pub struct Boxes {
     first: u32,
@@ -81,8 +82,8 @@ impl Model for Boxes {
 }
 
 impl Boxes {
-    /// Takes the memory for the rows `first` to `last`, of which none is fed, for feeds of up to `chunk`
-    /// values of up to `bound`, and for boxes of up to `widest` values.
+    /// Takes the memory for the rows `first` to `last`, for feeds of at most `chunk` values, none above `bound`, and
+    /// for boxes of at most `widest` values. No row is fed.
     pub fn open(
         alloc: Global,
         first: u32,
@@ -122,7 +123,7 @@ impl Boxes {
         })
     }
 
-    /// Feeds row `d` with its next values, and keeps them for `sum`.
+    /// Feeds row `d` with its next values, and keeps the row, so that `sum` can be asked for its boxes.
     pub fn feed_row(&mut self, d: u32, row: &[u32])
         requires row { KeepsRow self.old d }
         requires short { length row.now ≤ self.old.chunk }
@@ -141,7 +142,7 @@ impl Boxes {
     }
 
     /// The sum of the `w` values of row `d` that end at value `k`, counted from 0, of its last feed. Values before the
-    /// first count 0.
+    /// first one count 0.
     pub fn sum(&self, d: u32, k: u32, w: u32) -> u32
         requires row { KeepsRow self.now d }
         requires place { k < self.now.chunk }
@@ -153,8 +154,7 @@ impl Boxes {
         self.kept_sum(d, k, w)
     }
 
-    /// Feeds row `d` with its next values, of which those alone stay that later boxes need, until they are kept by
-    /// `keep_newest`.
+    /// Feeds row `d` with its next values. Only those that later boxes need are kept, unless `keep_newest` comes next.
     pub fn feed_unkept(&mut self, d: u32, row: &[u32])
         requires row { KeepsRow self.old d }
         requires short { length row.now ≤ self.old.chunk }
@@ -183,9 +183,9 @@ impl Boxes {
         self.fed = row.len() as u32;
     }
 
-    /// Feeds row `d` with its next values, which are the sums of two rows, where no box that ends at one of them
-    /// reaches the least sum of its width; `leasts` has those of the widths 1, 2, 4 and so on. Gives whether it did.
-    /// Where not, nothing is fed: a box may reach its least sum, or the feed is short.
+    /// Feeds row `d` with its next values, the sums of two rows, if no box that ends at one of them reaches the
+    /// threshold of its width; `leasts` has the thresholds of the widths 1, 2, 4 and so on. Answers whether it did. If
+    /// not, nothing was fed: a box may reach its threshold, or the feed is too short.
     pub fn feed_quiet(
         &mut self,
         d: u32,
@@ -226,7 +226,7 @@ impl Boxes {
         true
     }
 
-    /// Keeps the row that was fed last, so that `kept_sum` can be asked for its boxes until it is kept again.
+    /// Keeps the row that was fed last. `kept_sum` then answers its boxes until it is kept again.
     pub fn keep_newest(&mut self)
         ensures same { self.new ≡ record self.old { kept = self.new.kept } }
         ensures alike { AreAlike self.new self.old }
@@ -243,7 +243,7 @@ impl Boxes {
     }
 
     /// The sum of the `w` values of row `d` that end at value `k`, counted from 0, of the feed after which it was kept
-    /// last. Values before the first count 0.
+    /// last. Values before the first one count 0.
     pub fn kept_sum(&self, d: u32, k: u32, w: u32) -> u32
         requires row { KeepsRow self.now d }
         requires place { k < self.now.chunk }
@@ -262,9 +262,9 @@ impl Boxes {
         add_all(front_of(self.kept.as_slice(), place, w as usize))
     }
 
-    /// Whether a sum of `w` values that ends at a value of the last feed may reach `least`, in the row that was fed
-    /// last. Where not, none of them does. Boxes are added up, each from two of half its width, only as far as the
-    /// answer needs.
+    /// Whether a box of `w` values of the row that was fed last may reach `least`, if it ends at a value of that feed.
+    /// If the answer is `false`, none does. Boxes are made, each from two of half its width, only as far as the answer
+    /// needs.
     pub fn may_reach(&mut self, w: u32, least: u32) -> bool
         requires width { IsWidth w }
         requires wide { 2 ≤ w }
@@ -286,7 +286,8 @@ impl Boxes {
         boxes_may_reach(self.greatest.as_slice(), self.made.min(level), level, least)
     }
 
-    /// Every sum that ends at a value of the last feed of the row that was fed last fits into 32 bits. It does nothing.
+    /// Law: every box that ends at a value of the last feed of the row that was fed last fits into 32 bits. It does
+    /// nothing.
     pub fn sums_fit(&self)
         ensures { (d n k w : ℕ) (xs : List ℕ) → IsNewest self.now d n xs → k < n → IsWidth w
             → w ≤ self.now.widest → sum_ending xs (length xs - n + k) w < 2 ^ 32 }
@@ -295,19 +296,19 @@ impl Boxes {
     }
 }
 
-/// A sum of the last values is that of the values one by one.
+/// Law: the sum of the last `w` values is that of the values one by one.
 pub fn sums_add_values()
     ensures { SumsAddValues }
 {}
 
-// So many zeros.
+// `count` zeros.
 fn zeros(alloc: Global, count: usize) -> Result<Vec<u32>, Memory>
     ensures { IfOk result (λ v. v.items ≡ replicate count 0) }
 {
     Ok(vec![in alloc; 0; count]?)
 }
 
-// So many values, or up to 15 more, so that they are whole lanes.
+// `count`, rounded up to a multiple of 16.
 fn in_whole_lanes(count: u32) -> usize
     requires { count < 32 }
     ensures enough { count ≤ result }
@@ -318,7 +319,7 @@ fn in_whole_lanes(count: u32) -> usize
     (count as usize).div_ceil(LANES) * LANES
 }
 
-// The level of the boxes of a width.
+// The level of a width: `w` is 2^level.
 fn level_of(w: u32) -> usize
     requires { IsWidth w }
     ensures power { 2 ^ result ≡ w }
@@ -334,7 +335,7 @@ fn level_of(w: u32) -> usize
     }
 }
 
-// So many values of a table from a place on.
+// The `count` values of a table from `place` on.
 fn front_of(table: &[u32], place: usize, count: usize) -> &[u32]
     requires { place + count ≤ length table.now }
     ensures long { length result.now ≡ count }
@@ -343,7 +344,7 @@ fn front_of(table: &[u32], place: usize, count: usize) -> &[u32]
     &table[place..place + count]
 }
 
-// The sum of some values.
+// The sum of all values.
 fn add_all(values: &[u32]) -> u32
     requires { sum values.now < 2 ^ 32 }
     ensures { result ≡ sum values.now }

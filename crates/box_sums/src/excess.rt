@@ -1,4 +1,5 @@
-// Boxes of what the values of a row have above a base, in 16 bits: a bound of its boxes, without the row itself.
+// Boxes of how far the values of a row lie above a base, in 16 bits: an upper bound of the row's boxes, found without
+// making the row.
 ghost use Rattle.std.specs.Prelude.{◌≡◌, ℕ, ◌+◌, ◌-◌, ◌*◌, ◌^◌, ◌<◌, ◌≤◌, ◌++◌, false, List, Some, IfOk, length, slice_index};
 ghost use Rattle.fdmt_rows.specs.Capped.{capped_sum};
 ghost use Rattle.fdmt_rows.specs.Excess.{excess, excess_of_two};
@@ -10,14 +11,15 @@ use psr_base::Memory;
 use std::alloc::Global;
 use std::marker::Model;
 
-// How many widths a box can have.
+// The number of widths that a box can have.
 const LEVELS: usize = 6;
 
-// How far the bases of both rows together are below their first values, in all values of the widest box together: half
-// of what 16 bits have, so that boxes of noise stay within them. This is tuning alone, and no clause asks for it.
+// How far the bases of both rows together lie below the first values, summed over the widest box: half the range of 16
+// bits, so that boxes of noise fit. This is tuning; no clause asks for it.
 const ROOM: u16 = 32768;
 
-/// Room for what the values of a line have above a base, and for their boxes: a row for each width, of so many values.
+/// Memory for how far the values of a line lie above a base, and for the boxes of these: a row for each width, of
+/// `stride` values.
 #[derive(Drop)]
 pub struct ExcessBoxes {
     stride: usize,
@@ -35,7 +37,7 @@ impl Model for ExcessBoxes {
 }
 
 impl ExcessBoxes {
-    /// Takes the memory for lines of up to `stride` values.
+    /// Takes the memory for lines of at most `stride` values.
     pub fn open(alloc: Global, stride: usize) -> Result<ExcessBoxes, Memory>
         requires { stride ≤ 2 ^ 32 }
         ensures { IfOk result (λ e. e ≡ stride) }
@@ -46,8 +48,8 @@ impl ExcessBoxes {
         })
     }
 
-    /// Whether a box of 2^level of the values of `tail`, and of the sums of two rows behind them, may reach
-    /// `leasts[level]`, for any level. Where not, none does.
+    /// Whether a box of 2^level values of the line may reach `leasts[level]`, for any level. The line is `tail`,
+    /// followed by the sums of `upper` and `lower`. If the answer is `false`, none does.
     pub fn may_reach(
         &mut self,
         tail: &[u32],
@@ -78,7 +80,7 @@ impl ExcessBoxes {
     }
 }
 
-// A number somewhat below the first value of a row.
+// The first value of a row less `room`, or 0.
 fn base_of(row: &[u16], room: u16) -> u16 {
     match row.first() {
         Some(first) => first.saturating_sub(room),
@@ -86,14 +88,15 @@ fn base_of(row: &[u16], room: u16) -> u16 {
     }
 }
 
-// Both bases together.
+// The sum of both bases.
 fn both_bases(upper_base: u16, lower_base: u16) -> u32
     ensures { result ≡ upper_base + lower_base }
 {
     u32::from(upper_base) + u32::from(lower_base)
 }
 
-// Writes what a line has above a base: the values of `tail`, and the sums of two rows. Gives the greatest of it.
+// Writes how far the values of a line lie above both bases together: those of `tail`, then the sums of `upper` and
+// `lower`. Answers the greatest value written.
 fn fill(
     rows: &mut [u16],
     tail: &[u32],
@@ -121,7 +124,7 @@ fn fill(
     before.max(add_excess_greatest(out, upper, lower, upper_base, lower_base))
 }
 
-// Adds neighbours of row `level`, `width` places apart, into the next row, and gives the greatest.
+// Adds values of row `level` that are `width` places apart into the next row, and answers the greatest sum.
 fn double(rows: &mut [u16], stride: usize, level: usize, width: usize, count: usize) -> u16
     requires few { level ≤ 4 }
     requires room { (level + 2) * stride ≤ length rows.old }
@@ -142,7 +145,7 @@ fn double(rows: &mut [u16], stride: usize, level: usize, width: usize, count: us
     )
 }
 
-// The row of boxes that was made last, each of 2^level values, and the greatest value of it.
+// The row of boxes that was made last, each of 2^level values, and its greatest value.
 #[derive(Clone, Copy)]
 struct Made {
     level: usize,
@@ -150,7 +153,7 @@ struct Made {
 }
 
 impl Made {
-    // How great a box of 2^level values is at most, as none is further above its bases than `greatest`.
+    // An upper bound of a box of 2^level values, because none lies further above its bases than `greatest`.
     fn most(self, base: u32) -> u64
         requires { self.level ≤ 5 }
         ensures value { result ≡ base * 2 ^ self.level + self.greatest }
@@ -159,7 +162,7 @@ impl Made {
         u64::from(base) * width_of(self.level) as u64 + u64::from(self.greatest)
     }
 
-    // Whether a box of 2^wide values may reach `least`: it is 2^(wide - level) boxes of this row.
+    // Whether a box of 2^wide values may reach `least`. It is the sum of 2^(wide - level) boxes of this row.
     fn may_reach(self, base: u32, wide: usize, least: u32) -> bool
         requires order { self.level ≤ wide }
         requires few { wide ≤ 5 }
@@ -174,8 +177,8 @@ impl Made {
     }
 }
 
-// Makes boxes of further widths, up to those of 2^wide values, but none past the width whose greatest shows that they
-// are below `least`. Gives the row that is made last.
+// Makes boxes of further widths, up to 2^wide values, but stops at the first width whose maximum shows that boxes of
+// 2^wide values are below `least`. Answers the last row made.
 fn refine(
     rows: &mut [u16],
     stride: usize,
@@ -206,7 +209,7 @@ fn refine(
     made
 }
 
-// Whether a box of any width may reach the least sum of its width. Row 0 is made, with this greatest value.
+// Whether a box of any width may reach the threshold of its width. Row 0 is made, and `greatest` is its greatest value.
 fn any_may_reach(
     rows: &mut [u16],
     stride: usize,

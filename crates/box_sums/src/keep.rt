@@ -6,7 +6,7 @@ ghost use Rattle.box_sums.specs.Excess.{plain_sums};
 
 use fdmt_rows::{add_widened_rows, copy_row};
 
-/// Writes the values before a feed, and then the feed.
+/// Writes `tail`, the values before a feed, and then `feed`.
 pub fn join(line: &mut [u32], tail: &[u32], feed: &[u32])
     requires room { length tail.now + length feed.now ≤ length line.old }
     ensures values { take (length tail.now + length feed.now) line.new ≡ tail.now ++ feed.now }
@@ -17,7 +17,7 @@ pub fn join(line: &mut [u32], tail: &[u32], feed: &[u32])
     copy_row(&mut line[tail.len()..tail.len() + feed.len()], feed);
 }
 
-/// Puts zeros behind a table until it has `size` values, where it has fewer. It has memory for them.
+/// Appends zeros to a table until it has `size` values. The table has memory for them.
 pub fn fill_up(table: &mut Vec<u32>, size: usize)
     requires { size ≤ vec_capacity table.old }
     ensures long { size ≤ length table.new.items }
@@ -29,7 +29,7 @@ pub fn fill_up(table: &mut Vec<u32>, size: usize)
     }
 }
 
-/// Writes values to the front of row `at` of a table.
+/// Writes values to the front of row `at` of a table whose rows have `stride` values.
 pub fn write_row(table: &mut [u32], stride: usize, at: usize, values: &[u32])
     requires row { (at + 1) * stride ≤ length table.old }
     requires short { length values.now ≤ stride }
@@ -51,7 +51,7 @@ fn add_part(out: &mut [u32], upper: &[u16], lower: &[u16])
     add_widened_rows(out, upper, lower);
 }
 
-/// Writes the sums of two rows of 16 bits to the front of row `at` of a table.
+/// Writes the sums of two rows of 16 bits to the front of row `at` of a table whose rows have `stride` values.
 pub fn write_sums(table: &mut [u32], stride: usize, at: usize, upper: &[u16], lower: &[u16])
     requires row { (at + 1) * stride ≤ length table.old }
     requires short { length upper.now ≤ stride }

@@ -1,11 +1,11 @@
-// Sums of neighbours, by doubling, and the greatest of each width.
+// Sums of neighbours, made by doubling, and the greatest of each width.
 ghost use Rattle.std.specs.Prelude.{◌≡◌, ℕ, ◌+◌, ◌-◌, ◌*◌, ◌^◌, ◌<◌, ◌≤◌, false, List, length, slice_index};
 ghost use Rattle.fdmt_rows.specs.Rows.{wrapping_sum, sum_from};
 ghost use Rattle.box_sums.specs.Tables.{AreMade};
 
 use fdmt_rows::add_rows_greatest;
 
-// Adds to each of the first values of a row the one that is `width` places later, and gives the greatest sum.
+// Adds to each of the first `count` values of a row the one `width` places later, and answers the greatest sum.
 fn add_neighbours(out: &mut [u32], row: &[u32], width: usize, count: usize) -> u32
     requires room { count ≤ length out.old }
     requires inside { width + count ≤ length row.now }
@@ -16,7 +16,7 @@ fn add_neighbours(out: &mut [u32], row: &[u32], width: usize, count: usize) -> u
     add_rows_greatest(&mut out[..count], &row[..count], &row[width..width + count])
 }
 
-// Makes the next row of boxes, twice as wide as those of row `level`, which are `width` wide, and gives the greatest.
+// Makes the next row of boxes, twice as wide as those of row `level`, which are `width` wide. Answers the greatest one.
 fn double(boxes: &mut [u32], stride: usize, level: usize, width: usize, count: usize) -> u32
     requires few { level ≤ 3 }
     requires room { (level + 2) * stride ≤ length boxes.old }
@@ -33,8 +33,8 @@ fn double(boxes: &mut [u32], stride: usize, level: usize, width: usize, count: u
     add_neighbours(high, &low[level * stride..], width, count)
 }
 
-/// Makes the boxes of two of the first `total` values of a line, where boxes may be that wide, and their greatest.
-/// Gives how many widths are made.
+/// Makes the boxes of two of the first `total` values of a line, and their maximum, unless `widest` is 1. Answers how
+/// many widths are made: 1 or 0.
 pub fn add_pairs(
     boxes: &mut [u32],
     greatest: &mut [u32],
@@ -60,9 +60,9 @@ pub fn add_pairs(
     1
 }
 
-/// Makes boxes of further widths of a line's first `total` values, of which the first `made` widths are made, up to
-/// those of 2^level values, but none past the width whose greatest shows that they are below `least`. Gives how many
-/// widths are made then.
+/// Makes boxes of further widths of a line's first `total` values, of which `made` widths are made. It goes up to
+/// 2^level values, but stops at the first width whose maximum shows that boxes of 2^level values are below `least`.
+/// Answers how many widths are made then.
 pub fn double_up_to(
     boxes: &mut [u32],
     greatest: &mut [u32],
@@ -97,8 +97,8 @@ pub fn double_up_to(
     level
 }
 
-/// Whether a box of 2^level values may reach `least`, by the greatest of those of 2^known values: it is so many of
-/// these.
+/// Whether a box of 2^level values may reach `least`, from the maximum of the boxes of 2^known values: it is the sum of
+/// 2^(level - known) of these.
 pub fn boxes_may_reach(greatest: &[u32], known: usize, level: usize, least: u32) -> bool
     requires places { length greatest.now ≡ 6 }
     requires order { known ≤ level }
@@ -108,7 +108,7 @@ pub fn boxes_may_reach(greatest: &[u32], known: usize, level: usize, least: u32)
     u64::from(greatest[known]) * width_of(level - known) as u64 >= u64::from(least)
 }
 
-/// How many values a box of a level has.
+/// The width of the boxes of a level: 2^level values.
 pub fn width_of(level: usize) -> usize
     requires { level ≤ 5 }
     ensures value { result ≡ 2 ^ level }

@@ -1,11 +1,11 @@
-// The word of a pulse, which is asked for once where pulses of one end follow one another.
+// The first word of the line of a pulse. It is asked for once for all pulses in a row that have one end.
 ghost use Rattle.std.specs.Prelude.{◌≡◌};
 ghost use Rattle.candidate_book.specs.Asked.{IsAsked, HasWord};
 
 use crate::labels::{LineLabels, PulseWord};
 use search_model::Candidate;
 
-/// The word of the pulses of one end.
+/// The first word of the lines of the pulses with one end.
 #[derive(Clone, Copy)]
 pub(crate) struct Asked {
     end: u64,
@@ -13,7 +13,7 @@ pub(crate) struct Asked {
 }
 
 impl Asked {
-    /// That of an end: the labels are asked.
+    /// Asks the labels for the word of the pulses that end at spectrum `end`.
     pub(crate) fn at<L: LineLabels>(labels: &L, end: u64) -> Asked
         ensures word { IsAsked (L.word_at labels.now) result }
         ensures end { result.end ≡ end }
@@ -24,7 +24,7 @@ impl Asked {
         }
     }
 
-    // The word at an end: the labels are asked where it is another one.
+    // The word of the pulses that end at spectrum `end`. The labels are asked if that is a new end.
     fn at_end<L: LineLabels>(&mut self, labels: &L, end: u64) -> PulseWord
         requires { IsAsked (L.word_at labels.now) self.old }
         ensures asked { IsAsked (L.word_at labels.now) self.new }
@@ -37,7 +37,7 @@ impl Asked {
         self.word
     }
 
-    /// The word of the line of a candidate. Where it is a pulse of another end, the labels are asked.
+    /// The word of a candidate's line. The labels are asked if it is a pulse with a new end.
     pub(crate) fn of<L: LineLabels>(&mut self, labels: &L, candidate: &Candidate) -> PulseWord
         requires { IsAsked (L.word_at labels.now) self.old }
         ensures asked { IsAsked (L.word_at labels.now) self.new }

@@ -8,7 +8,7 @@ use search_model::Candidate;
 use std::alloc::Global;
 use std::marker::Model;
 
-/// The first candidates of those that were added, up to a limit, and how many were added.
+/// Keeps the first candidates that are added, up to a limit, and counts all of them.
 #[derive(Drop)]
 pub struct Book {
     first: Vec<Candidate>,
@@ -42,7 +42,7 @@ impl Book {
         })
     }
 
-    /// Counts a candidate, and keeps it where fewer than the limit are kept.
+    /// Counts a candidate, and keeps it if there is room.
     pub fn add(&mut self, candidate: Candidate)
         requires { self.old.count < 2 ^ 63 }
         ensures list { let limit = self.old.limit in (list : List Candidate)
@@ -57,7 +57,7 @@ impl Book {
         }
     }
 
-    /// Forgets all candidates. Its memory stays.
+    /// Forgets all candidates, and sets the count to 0. The memory is kept.
     pub fn clear(&mut self)
         ensures { self.new ≡ book_of self.old.limit [] }
     {
@@ -65,7 +65,7 @@ impl Book {
         self.added = 0;
     }
 
-    /// How many candidates were added.
+    /// The number of candidates that were added, those that were not kept among them.
     pub fn count(&self) -> u64
         ensures { result ≡ self.now.count }
     {

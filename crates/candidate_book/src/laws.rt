@@ -1,5 +1,5 @@
 // A law of merged books, which the contract of a function that does nothing carries. A caller whose proof needs the law
-// calls its function.
+// calls the function.
 ghost use Rattle.candidate_book.specs.Laws.{BooksHaveAMerge};
 
 // A law: it does nothing when it runs, and the proof uses what it ensures.

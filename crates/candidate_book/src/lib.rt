@@ -1,5 +1,5 @@
-//! The book of candidates: it keeps the first of them and counts all; the candidates of several books are written as
-//! one text.
+//! The book of candidates, which keeps the first of them and counts all, and the lines that are written for the
+//! candidates of one or several books.
 #![tactic(auto)]
 
 mod asked;

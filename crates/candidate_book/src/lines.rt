@@ -1,4 +1,4 @@
-// The lines of the candidate text.
+// The lines of a candidate list.
 ghost use Rattle.std.specs.Prelude.{◌≡◌, ◌+◌, ◌*◌, ◌≤◌, ◌<◌, ◌++◌, codes, decimal, length};
 ghost use Rattle.search_model.specs.CandidateText.{thousandths, candidate_line as line_of, end_line as end_line_of};
 ghost use Rattle.search_model.specs.Candidates.{cells_of};
@@ -11,7 +11,7 @@ use obs_plan::Observation;
 use search_model::Candidate;
 use text_line::Line;
 
-/// The line of a candidate, whose word was asked for.
+/// The line of a candidate. `word` is the first word of the line if it is a pulse.
 pub(crate) fn candidate_line<L: LineLabels>(
     obs: &Observation,
     labels: &L,
@@ -64,7 +64,7 @@ pub(crate) fn candidate_line<L: LineLabels>(
     line
 }
 
-// How many cells a candidate adds up.
+// The number of cells that a candidate adds.
 fn cells<L: LineLabels>(labels: &L, candidate: &Candidate) -> u64
     requires { IsSearched candidate.now }
     ensures { result ≡ cells_of (L.cells_of_delay labels.now) candidate.now }
@@ -76,7 +76,7 @@ fn cells<L: LineLabels>(labels: &L, candidate: &Candidate) -> u64
     }
 }
 
-/// The last line: how many pulses and folds there are, and how many spectra were searched.
+/// The END line: the number of pulses, of folds, and of spectra that were searched.
 pub(crate) fn end_line(pulses: u64, folds: u64, spectra: u64) -> Line
     ensures text { result ≡ end_line_of pulses folds spectra }
     ensures bound { length result ≤ 256 }
@@ -98,7 +98,7 @@ fn push_word(line: &mut Line, number: u64)
     line.push_str(" ");
 }
 
-// Appends the last two numbers of a line, and its end.
+// Appends the last two numbers of a line, and a line feed.
 fn push_last_words(line: &mut Line, first: u64, second: u64)
     requires { length line.old + 42 ≤ 256 }
     ensures text { line.new

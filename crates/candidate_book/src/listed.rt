@@ -1,4 +1,4 @@
-// The lines of a list of candidates.
+// Writing the lines of a list of candidates.
 ghost use Rattle.std.specs.Prelude.{◌≡◌, [], All};
 ghost use Rattle.candidate_book.specs.Conditions.{IsSearched};
 ghost use Rattle.candidate_book.specs.Labelled.{labels_with};
@@ -15,7 +15,7 @@ use search_model::Candidate;
 // A law: it does nothing when it runs, and the proofs use what it ensures.
 use psr_base::pieces_join;
 
-// Passes the lines of a list on to the page.
+// Adds the lines of a list to the page.
 fn pass_list<K: Sink, L: LineLabels>(
     list: &[Candidate],
     obs: &Observation,
@@ -43,8 +43,8 @@ fn pass_list<K: Sink, L: LineLabels>(
     Ok(totals)
 }
 
-/// Writes the lines of candidates of an observation in the order of the list, with these labels, and answers how many
-/// there are of each kind. After a fault the sink has taken the front of these lines.
+/// Writes the lines of the candidates in the order of `list`, and returns the number of pulses and of folds. After a
+/// fault the sink has taken the front of these lines.
 pub fn write_lines<K: Sink, L: LineLabels>(
     list: &[Candidate],
     obs: &Observation,
@@ -63,9 +63,9 @@ pub fn write_lines<K: Sink, L: LineLabels>(
     Ok(totals)
 }
 
-/// Writes the lines of candidates of an observation in the order of the list, with these labels, and the END line: how
-/// many pulses and folds there are, which it answers, and how many spectra were searched. After a fault the sink has
-/// taken the front of this text.
+/// Writes the lines of the candidates in the order of `list`, and then the END line with the number of pulses, of
+/// folds, and of spectra that were searched. Returns the number of pulses and of folds. After a fault the sink has
+/// taken the front of this output.
 pub fn write_text<K: Sink, L: LineLabels>(
     list: &[Candidate],
     obs: &Observation,

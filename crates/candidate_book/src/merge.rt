@@ -1,4 +1,4 @@
-// Which of several books has the candidate that stands first.
+// Finding which of several books has the candidate that comes first.
 ghost use Rattle.std.specs.Prelude.{◌≡◌, ◌+◌, ◌<◌, ◌≤◌, ◌^◌, ◌↔◌, length, slice_get, slice_index, slice_set, IsSome, IsTrue};
 ghost use Rattle.std.specs.Option.{ForSome};
 ghost use Rattle.search_model.specs.Order.{Precedes};
@@ -10,10 +10,10 @@ use search_model::Candidate;
 // A law: it does nothing when it runs, and the proofs use what it ensures.
 use search_model::order_is_strict;
 
-/// How many books are merged at most.
+/// The largest number of books that are merged.
 pub(crate) const MOST_BOOKS: usize = 7;
 
-/// A candidate that stands next in a book, and the place of the book.
+/// The next candidate of a book, and the place of the book.
 #[derive(Clone, Copy)]
 pub(crate) struct Next {
     pub(crate) book: usize,
@@ -31,7 +31,7 @@ fn candidate_at(book: &Option<Book>, place: usize) -> Option<Candidate>
     }
 }
 
-// Whether a candidate precedes the one that was found, if one was.
+// Whether a candidate comes before the one that was found, or none was found.
 fn comes_before(candidate: &Candidate, found: &Option<Next>) -> bool
     ensures { IsTrue result ↔ ForSome found.now (λ next. Precedes candidate.now next.candidate) }
 {
@@ -41,7 +41,8 @@ fn comes_before(candidate: &Candidate, found: &Option<Next>) -> bool
     }
 }
 
-/// The first of the candidates that stand next in the books, where a book's next one stands at its place.
+/// The first candidate, in the order of candidates, among the next ones of all books. `places` has the place of the
+/// next candidate in each book.
 pub(crate) fn first(books: &[Option<Book>], places: &[usize; MOST_BOOKS]) -> Option<Next>
     requires { length books.now ≤ 7 }
     ensures first { FindsFirst (next_at books.now places.now) (length books.now) result }
@@ -59,7 +60,7 @@ pub(crate) fn first(books: &[Option<Book>], places: &[usize; MOST_BOOKS]) -> Opt
     found
 }
 
-/// Moves a book to the place after its next candidate.
+/// Moves the place of a book behind its next candidate.
 pub(crate) fn advance(places: &mut [usize; MOST_BOOKS], book: usize)
     requires within { book < 7 }
     requires fits { slice_index places.old book < 2 ^ 32 }

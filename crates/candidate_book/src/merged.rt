@@ -1,4 +1,4 @@
-// The text of the candidates of several books.
+// Writing the candidates of several books in one list.
 ghost use Rattle.std.specs.Prelude.{◌≡◌, ◌+◌, ◌<◌, ◌^◌, [], List, if◌then◌else◌};
 ghost use Rattle.search_model.specs.declared.candidate.Candidate.{Candidate};
 ghost use Rattle.search_model.specs.CandidateText.{is_pulse, is_fold};
@@ -22,7 +22,7 @@ use psr_base::pieces_join;
 use search_model::order_is_strict;
 use thiserror::Error;
 
-/// How many candidates there are of each kind.
+/// The number of candidates of each kind.
 #[derive(Clone, Copy, Debug, PartialEq, Eq)]
 pub struct Totals {
     pub pulses: u64,
@@ -30,7 +30,7 @@ pub struct Totals {
 }
 
 impl Totals {
-    /// No candidate was counted.
+    /// No candidates.
     pub(crate) fn none() -> Totals
         ensures pulses { result.pulses ≡ 0 }
         ensures folds { result.folds ≡ 0 }
@@ -55,7 +55,7 @@ impl Totals {
     }
 }
 
-/// Why a text wasn't written whole.
+/// Why an output wasn't written completely.
 #[derive(Clone, Copy, Debug, PartialEq, Eq, Error)]
 pub enum SinkStop {
     /// The sink failed.
@@ -69,7 +69,7 @@ impl From<Failed> for SinkStop {
     }
 }
 
-// Passes the lines of all candidates that the books keep on to the page, in the order of candidates.
+// Adds the lines of all candidates that the books keep to the page, in the order of candidates.
 fn pass_candidates<K: Sink, L: LineLabels>(
     books: &[Option<Book>],
     obs: &Observation,
@@ -100,9 +100,9 @@ fn pass_candidates<K: Sink, L: LineLabels>(
     Ok(totals)
 }
 
-/// Writes the lines of the candidates that at most 7 books keep, in the order of candidates, and the END line: how many
-/// pulses and folds there are, which it answers, and how many spectra were searched. After a fault the sink has taken
-/// the front of this text.
+/// Writes the lines of all candidates that up to 7 books keep, in the order of candidates, and then the END line with
+/// the number of pulses, of folds, and of spectra that were searched. Returns the number of pulses and of folds. After
+/// a fault the sink has taken the front of this output.
 pub fn write_merged<K: Sink>(
     books: &[Option<Book>],
     obs: &Observation,

@@ -1,4 +1,4 @@
-// Lines that are written together.
+// Lines that are collected and written together.
 ghost use Rattle.std.specs.Prelude.{◌≡◌, ℕ, ◌≤◌, [], ◌++◌, List, OnOk, length};
 ghost use Rattle.psr_base.specs.Written.{SinkSeen, Wrote};
 ghost use Rattle.candidate_book.specs.Lines.{Pending, Passed};
@@ -9,10 +9,10 @@ use std::marker::Model;
 // A law: it does nothing when it runs, and the proofs use what it ensures.
 use psr_base::pieces_join;
 
-// The most bytes that wait.
+// The largest number of bytes that are collected.
 const PAGE: usize = 4096;
 
-/// Lines that wait to be written together.
+/// Lines that are collected to be written together.
 #[derive(Drop)]
 pub(crate) struct Page {
     bytes: ArrayVec<u8, PAGE>,
@@ -27,7 +27,7 @@ impl Model for Page {
 }
 
 impl Page {
-    /// No line waits.
+    /// An empty page.
     pub(crate) fn new() -> Page
         ensures { result ≡ [] }
     {
@@ -36,7 +36,7 @@ impl Page {
         }
     }
 
-    /// Passes a line on: it waits behind the others, which are written first where they leave it no room.
+    /// Adds a line to the page. If there is no room for it, the page is written first.
     pub(crate) fn push<K: Sink>(&mut self, line: &[u8], sink: &mut K) -> Result<(), Failed>
         requires { length line.now ≤ 256 }
         ensures { (text : List ℕ) (first : SinkSeen) → Pending text self.old first (K.seen sink.old)
@@ -50,7 +50,7 @@ impl Page {
         Ok(())
     }
 
-    /// Writes the lines that wait.
+    /// Writes the lines of the page, and empties it.
     pub(crate) fn flush<K: Sink>(&mut self, sink: &mut K) -> Result<(), Failed>
         ensures wrote { Wrote self.old (K.seen sink.old) (K.seen sink.new) result }
         ensures empty { OnOk result (self.new ≡ []) }

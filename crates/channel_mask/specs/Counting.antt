@@ -32,7 +32,7 @@ pub record TakesChunks (c : Carrying) (samples : List ℕ) : Type 0 where
   pub rows : length samples ≡ channels_of c.tables.plan.edges * chunk
   pub whole : c.is_passing ≡ false
 
--- so many of them were taken
+-- `count` chunks of these samples were taken
 pub record TookChunks (before after : Carrying) (samples : List ℕ) (count : ℕ) : Type 0 where
   pub tables : after.tables ≡ before.tables
   pub fed : after.fed ≡ before.fed + count * chunk

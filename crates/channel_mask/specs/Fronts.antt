@@ -21,13 +21,13 @@ pub record StopsAt (text : List ℕ) (place : ℕ) : Type 0 where
 
 -- ---- the same byte by byte
 
--- a byte after so many letters of `none`
+-- one byte after `count` letters of `none`
 abbrev pub after_letters : ℕ → ℕ → Option Front
 after_letters count byte =
     if nat_lt count 4 && byte == slice_index (codes "none") count
     then Some (Letters (count + 1)) else None
 
--- a digit after so many of a number, the second of its item or not
+-- one digit after `count` digits of a number, the second of its item or not
 abbrev pub one_digit_more : ℕ → Bool → Option Front
 one_digit_more count is_second =
     if nat_lt count 9 then Some (Digits (count + 1) is_second) else None
@@ -38,19 +38,19 @@ after_number is_second byte =
     if is_comma byte then Some (Digits 0 false)
     else (if is_hyphen byte && not is_second then Some (Digits 0 true) else None)
 
--- a byte after so many digits
+-- one byte after `count` digits of a number
 abbrev pub after_digits : ℕ → Bool → ℕ → Option Front
 after_digits count is_second byte =
     if is_ascii_digit byte then one_digit_more count is_second
     else (if count == 0 then None else after_number is_second byte)
 
--- a front with one byte more, where it is one
+-- a front with one byte more, if that is a front
 abbrev pub with_byte : Front → ℕ → Option Front
 with_byte Start byte = if byte == 110 then Some (Letters 1) else after_digits 0 false byte
 with_byte (Letters count) byte = after_letters count byte
 with_byte (Digits count is_second) byte = after_digits count is_second byte
 
--- a front with more bytes, where it is one
+-- a front with more bytes, if that is a front
 abbrev pub with_bytes : Front → List ℕ → Option Front
 with_bytes front [] = Some front
 with_bytes front (byte ∷ more) =

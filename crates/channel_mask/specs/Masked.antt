@@ -33,7 +33,7 @@ pub record TellsCells (e : EngineState) : Type 0 where
   pub most : e.search.max_delay ≤ most_delay
   pub small : (d : ℕ) → d ≤ most_delay → cells_in (scope_of e).sought d < 2 ^ 32
 
--- it searches all delays of an observation in the channels that a mask keeps
+-- an engine searches all delays of an observation in the channels that a mask keeps
 pub record SearchesKept (o : Observation) (s : Search) (mask : List Bool) (e : EngineState)
     : Type 0 where
   pub bounds : ObservationInRange o
@@ -42,13 +42,13 @@ pub record SearchesKept (o : Observation) (s : Search) (mask : List Bool) (e : E
   pub shard_is : e.shard ≡ 0
   pub scope : IsScopeOf o s.max_delay mask (scope_of e)
 
--- and was fed these data bytes
+-- an engine searches the channels that a mask keeps, and was fed these data bytes
 pub record StandsForKept (o : Observation) (s : Search) (mask : List Bool) (bytes : List ℕ)
     (e : EngineState) : Type 0 where
   pub searches : SearchesKept o s mask e
   pub part : StandsForPart o bytes e
 
--- and found their candidates: those of the channels that are kept
+-- an engine has found the candidates of these data bytes in the channels that a mask keeps
 pub record HasFoundKept (o : Observation) (s : Search) (mask : List Bool) (bytes : List ℕ)
     (e : EngineState) : Type 0 where
   pub searches : SearchesKept o s mask e

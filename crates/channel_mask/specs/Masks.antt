@@ -8,20 +8,20 @@ use Rattle.channel_mask.specs.declared.fault.MaskFault.TheVariants.{BadMask, Out
 use Rattle.channel_mask.specs.Texts.{is_mask_text, names_channel, first_outside}
 use Rattle.channel_mask.specs.Fronts.{StopsAt}
 
--- the place in the order of the file of channel c from the highest frequency, of so many
+-- the place in the order of the file of channel c, which counts from the highest frequency
 abbrev pub place_in_file : ℕ → Bool → ℕ → ℕ
 place_in_file channels is_falling c = if is_falling then c else channels - 1 - c
 
 abbrev pub file_channel : Observation → ℕ → ℕ
 file_channel o c = place_in_file o.channels o.is_falling c
 
--- the marks that a text gives so many channels, one for each from the highest frequency on
+-- the marks that a text gives `channels` channels, one for each from the highest frequency on
 abbrev pub marks_for : ℕ → Bool → List ℕ → List Bool
 marks_for channels is_falling text =
     map (λ c. names_channel text (place_in_file channels is_falling c))
     (range_with_len 0 channels)
 
--- the mask that a text says of an observation
+-- the mask of a text for an observation
 abbrev pub mask_of : Observation → List ℕ → List Bool
 mask_of o text = marks_for o.channels o.is_falling text
 
@@ -37,7 +37,7 @@ pub record IsMaskOf (o : Observation) (text : List ℕ) (mask : List Bool) : Typ
   pub channels : length mask ≡ o.channels
   pub leaves : (c : ℕ) × (c < o.channels) × (is_masked mask c ≡ false)
 
--- what a fault says of a text
+-- what a fault means for a text
 abbrev pub ExplainsMask : Observation → List ℕ → MaskFault → Type 0
 ExplainsMask o text (BadMask place) = (is_mask_text text ≡ false) × StopsAt text place
 ExplainsMask o text (OutOfRange channel channels) = (is_mask_text text ≡ true)

@@ -13,7 +13,7 @@ range_of item = record {
   to = slice_index (numbers_of item) (length (numbers_of item) - 1);
 }
 
--- both numbers
+-- both numbers of a range
 abbrev pub ends_of : ChannelRange → List ℕ
 ends_of range = range.from ∷ range.to ∷ []
 

@@ -1,4 +1,4 @@
-// How many cells of each delay path lie in the channels that are kept.
+// Counts how many cells of each delay path lie in the channels that are kept.
 ghost use Rattle.std.specs.Prelude.{◌≡◌, ℕ, ◌+◌, ◌*◌, ◌^◌, ◌≤◌, ◌<◌, length, slice_index, if◌then◌else◌, IfOk};
 ghost use Rattle.dada_model.specs.Bounds.{most_delay};
 ghost use Rattle.dada_model.specs.Edges.{AreEdges};
@@ -16,19 +16,18 @@ use search_model::path_sums_count_cells;
 use std::alloc::{AllocError, Global};
 use subband_plan::Plan;
 
-// How many spectra are added up at a time. Rows of so many values of 16 bits are an odd number of lines of the cache
-// apart, and two calls take the spectra of a delay of 1024.
+// How many spectra are added up at a time. Rows of 544 values of 16 bits are an odd number of cache lines apart, and
+// two calls take the spectra of a delay of 1024.
 const CHUNK: usize = 544;
 
-// The sample of a channel.
+// The sample of a channel: 0 if it is masked, otherwise 1.
 fn sample(is_masked: bool) -> u8
     ensures { result ≡ (if is_masked then 0 else 1) }
 {
     if is_masked { 0 } else { 1 }
 }
 
-// The samples of a chunk of spectra, 1 in the channels that are kept and 0 in those that are masked: a channel after
-// another.
+// The samples of a chunk of spectra, one channel after another: 0 in masked channels, 1 in all others.
 fn samples(alloc: Global, masked: &[bool]) -> Result<Vec<u8>, AllocError>
     requires { length masked.now ≤ 4096 }
     ensures { IfOk result (λ samples. AreMarks masked.now samples.items) }
@@ -40,7 +39,7 @@ fn samples(alloc: Global, masked: &[bool]) -> Result<Vec<u8>, AllocError>
     Ok(samples)
 }
 
-// Takes so many chunks of these samples.
+// Takes `count` chunks of these samples.
 fn take_chunks(carry: &mut Carry, samples: &[u8], count: u32)
     requires takes { TakesChunks carry.old samples.now }
     requires few { carry.old.fed + count * chunk ≤ 2 ^ 48 }
@@ -51,7 +50,7 @@ fn take_chunks(carry: &mut Carry, samples: &[u8], count: u32)
     }
 }
 
-// Puts the last path sum of each delay from 0 on into `sums`, by a pass over a chunk that is not ended.
+// Writes the last path sum of each delay from 0 on to `sums`, by a pass over a chunk. The pass is not ended.
 fn read_sums(carry: &mut Carry, samples: &[u8], sums: &mut [u32])
     requires takes { TakesChunks carry.old samples.now }
     requires few { carry.old.fed + chunk ≤ 2 ^ 48 }
@@ -66,7 +65,8 @@ fn read_sums(carry: &mut Carry, samples: &[u8], sums: &mut [u32])
     }
 }
 
-// The cells of each delay up to a longest one over a band, whose edges are in kHz, the highest first.
+// The number of kept cells of each delay up to `max_delay`. `edges` are the edges of the channels in kHz, the highest
+// first.
 fn counts(alloc: Global, edges: &[u32], masked: &[bool], max_delay: u32) -> Result<Vec<u32>, Memory>
     requires edges { AreEdges (length masked.now) edges.now }
     requires delay { max_delay ≤ most_delay }
@@ -85,8 +85,8 @@ fn counts(alloc: Global, edges: &[u32], masked: &[bool], max_delay: u32) -> Resu
 }
 
 impl Mask {
-    /// How many cells the path of each delay from 0 to `max_delay` has in channels that are kept. They are counted by
-    /// the dispersion transform itself, over spectra that are 1 in these channels and 0 in all others.
+    /// For each delay from 0 to `max_delay` spectra, how many cells of its path lie in channels that are kept. The
+    /// dispersion transform itself counts them, over spectra that are 1 in these channels and 0 in all others.
     pub fn count_cells(
         &self,
         alloc: Global,

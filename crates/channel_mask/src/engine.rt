@@ -22,8 +22,8 @@ use std::marker::Model;
 // Laws: they do nothing when they run, and the proofs use what they ensure.
 use search_model::{candidates_are_listed, cells_agree, one_shard_is_all};
 
-/// The search of all delays of an observation in the channels that a mask keeps: data bytes are fed in pieces that are
-/// cut anywhere, and the candidates are kept in a book. All memory is taken by `open`. A clause sees it as its engine.
+/// The search of all delays of an observation in the channels that a mask keeps. Data bytes are fed in pieces of any
+/// length, and the candidates are kept in a book. `open` takes all memory. A clause sees this as its engine.
 #[derive(Drop)]
 pub struct MaskEngine {
     engine: Engine,
@@ -41,8 +41,8 @@ impl Model for MaskEngine {
 }
 
 impl MaskEngine {
-    /// Takes the memory for a search without the channels of a mask, which was read for the observation, or says why
-    /// the search is refused.
+    /// Takes the memory for a search without the channels of `mask`, which was read for this observation. The error
+    /// says why the search is refused.
     pub fn open(
         alloc: Global,
         observation: &Observation,
@@ -63,7 +63,8 @@ impl MaskEngine {
         Ok(MaskEngine { engine })
     }
 
-    /// The same of an engine that searches so, as a run that is driven by another crate leaves one.
+    /// Makes a mask engine of an engine that was opened for the scope of a mask, as the run of another crate leaves
+    /// one.
     pub fn of_engine(engine: Engine) -> MaskEngine
         requires { (o : Described) × (s : Settings) × (mask : List Bool)
             × SearchesKept o s mask engine }
@@ -78,7 +79,7 @@ impl MaskEngine {
         MaskEngine { engine }
     }
 
-    /// Takes the next data bytes.
+    /// Takes the next data bytes, and searches each chunk that they fill.
     pub fn feed(&mut self, bytes: &[u8])
         requires running { self.old.has_ended ≡ false }
         requires few { self.old.fed + length bytes.now ≤ most_fed }
@@ -92,7 +93,7 @@ impl MaskEngine {
         self.engine.feed(bytes);
     }
 
-    /// Ends the data: what is left of them is searched, but for an incomplete last spectrum, and then all folds.
+    /// Ends the data. All that is left of them is searched, except an incomplete last spectrum, and then all folds.
     pub fn end(&mut self)
         requires { self.old.has_ended ≡ false }
         ensures same { SameShard self.new self.old }
@@ -107,21 +108,21 @@ impl MaskEngine {
         self.engine.end();
     }
 
-    /// How many whole spectra the bytes are that were fed.
+    /// The number of complete spectra that were fed.
     pub fn spectra(&self) -> u64
         ensures { result ≡ spectra_fed self.now }
     {
         self.engine.whole_spectra()
     }
 
-    /// The candidates: after `end`, all of them.
+    /// The candidates so far: after `end`, all of them.
     pub fn book(&self) -> &Book
         ensures { result.now ≡ self.now.book }
     {
         self.engine.book()
     }
 
-    /// How many cells of the path of a delay lie in channels that are kept, for a delay that is searched.
+    /// How many cells of the path of delay `d` lie in channels that are kept. The delay must be one that is searched.
     pub fn cells(&self, d: u32) -> u32
         requires { d ≤ self.now.search.max_delay }
         ensures { (o : Described) (s : Settings) (mask : List Bool) → SearchesKept o s mask self.now

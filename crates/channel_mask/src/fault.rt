@@ -7,13 +7,14 @@ use thiserror::Error;
 /// Why a text is no mask of an observation.
 #[derive(Clone, Copy, Debug, PartialEq, Eq, Drop, Error)]
 pub enum MaskFault {
-    /// It is no mask text. `place` is that of the first byte with which it stops being the front of one, or its length.
+    /// It is no mask text. `place` is the place, from 0, of the first byte that no mask text has there after the bytes
+    /// before it; or the text's length, if a longer text could be one.
     #[error("no mask from byte {place} on")]
     BadMask { place: usize },
-    /// The first number in it that is no channel, and the number of channels.
+    /// A number is no channel: the first such number, and the number of channels.
     #[error("{channel} is none of {channels} channels")]
     OutOfRange { channel: u32, channels: u32 },
-    /// No channel is left.
+    /// All channels are masked.
     #[error("all channels are masked")]
     AllMasked,
     #[error("out of memory")]

@@ -1,4 +1,4 @@
-// Where a text stops being the front of a mask text.
+// Finds where a text stops being a beginning of a mask text.
 ghost use Rattle.std.specs.Prelude.{◌≡◌, true, false, IfNone, IfSome};
 ghost use Rattle.channel_mask.specs.Texts.{is_mask_text};
 ghost use Rattle.channel_mask.specs.Fronts.{StopsAt, one_digit_more, after_number as after_number_of, after_digits as after_digits_of, after_letters as after_letters_of, with_byte as with_byte_of, is_whole as is_whole_of};
@@ -9,21 +9,21 @@ use crate::laws::fronts_are_read;
 // The text of the mask of no channels.
 const NONE: &[u8; 4] = b"none";
 
-// The most digits of a number.
+// The maximum number of digits of a number.
 const MOST_DIGITS: u32 = 9;
 
-// How far a front of a mask text goes.
+// How far a beginning of a mask text has come.
 #[derive(Clone, Copy)]
 pub(crate) enum Front {
-    // There is nothing yet.
+    // The text is empty.
     Start,
-    // So many letters of `none`.
+    // The first letters of `none`: this many.
     Letters(usize),
-    // So many digits of a number, which is the second of its item or not.
+    // `count` digits of a number; `is_second` if it is the second number of its item.
     Digits { count: u32, is_second: bool },
 }
 
-// A digit after so many of a number.
+// One digit more after `count` digits, or `None` if that is too many.
 fn digit_more(count: u32, is_second: bool) -> Option<Front>
     ensures { result ≡ one_digit_more count is_second }
 {
@@ -37,7 +37,7 @@ fn digit_more(count: u32, is_second: bool) -> Option<Front>
     }
 }
 
-// A byte after a whole number.
+// One byte after a complete number, or `None` if no mask text goes on so.
 fn after_number(is_second: bool, byte: u8) -> Option<Front>
     ensures { result ≡ after_number_of is_second byte }
 {
@@ -54,7 +54,7 @@ fn after_number(is_second: bool, byte: u8) -> Option<Front>
     }
 }
 
-// A byte after so many digits of a number.
+// One byte after `count` digits of a number, or `None` if no mask text goes on so.
 fn after_digits(count: u32, is_second: bool, byte: u8) -> Option<Front>
     ensures { result ≡ after_digits_of count is_second byte }
 {
@@ -67,7 +67,7 @@ fn after_digits(count: u32, is_second: bool, byte: u8) -> Option<Front>
     after_number(is_second, byte)
 }
 
-// A byte after so many letters of `none`.
+// One byte after `count` letters of `none`, or `None` if no mask text goes on so.
 fn after_letters(count: usize, byte: u8) -> Option<Front>
     ensures { result ≡ after_letters_of count byte }
 {
@@ -79,7 +79,7 @@ fn after_letters(count: usize, byte: u8) -> Option<Front>
 }
 
 impl Front {
-    // It with one byte more, where that is a front.
+    // The front extended by one byte, or `None` if no mask text begins so.
     fn with_byte(self, byte: u8) -> Option<Front>
         ensures { result ≡ with_byte_of self byte }
     {
@@ -91,7 +91,7 @@ impl Front {
         }
     }
 
-    // Whether it is a whole mask text.
+    // Whether the front is a complete mask text.
     fn is_whole(self) -> bool
         ensures { result ≡ is_whole_of self }
     {
@@ -103,8 +103,8 @@ impl Front {
     }
 }
 
-/// The place of the first byte with which a text stops being the front of a mask text, or its length; and nothing where
-/// it is a mask text.
+/// `None` if the text is a mask text. Otherwise the place of the first byte at which it stops being a beginning of one,
+/// or its length.
 pub(crate) fn stop(text: &[u8]) -> Option<usize>
     ensures none { IfNone result (is_mask_text text.now ≡ true) }
     ensures some { IfSome result (λ place. (is_mask_text text.now ≡ false)

@@ -1,5 +1,5 @@
-//! Masks of channels: the text that names them, which channels of an observation they leave, how many cells of each
-//! delay path lie in those, and the search of those channels with its text.
+//! Masks of channels: reads the text that names them, counts how many cells of each delay path are kept, and searches
+//! the channels that are kept and writes the text of that search.
 #![tactic(auto)]
 
 mod cells;

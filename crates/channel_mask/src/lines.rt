@@ -1,4 +1,4 @@
-// The text of a search without the channels of a mask.
+// Writes the text of a search without the channels of a mask.
 ghost use Rattle.std.specs.Prelude.{ℕ, ◌≤◌, All, Bool, List};
 ghost use Rattle.search_model.specs.declared.search.Search.{Search as Settings};
 ghost use Rattle.candidate_book.specs.Conditions.{IsSearched};
@@ -11,7 +11,7 @@ use psr_base::Sink;
 // A law: it does nothing when it runs, and the proofs use what it ensures.
 use search_model::candidates_are_listed;
 
-/// The cells that an engine counts for each delay, and `PULSE`.
+/// Labels of candidates: the cells that an engine counts for each delay, and `PULSE`.
 #[derive(Drop)]
 pub(crate) struct CountedLabels<'a> {
     engine: &'a MaskEngine,
@@ -35,8 +35,8 @@ impl LineLabels for CountedLabels<'_> {
     }
 }
 
-/// Writes the text of a search without the channels of a mask, which has ended and kept all candidates, and answers how
-/// many there are of each kind. After a fault the sink has taken the front of this text.
+/// Writes the text of a search without the channels of a mask, which has ended and kept all candidates. Answers how
+/// many there are of each kind. After a fault the sink has taken a beginning of the text.
 pub fn write_masked<K: Sink>(
     engine: &MaskEngine,
     obs: &Observation,

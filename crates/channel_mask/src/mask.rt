@@ -11,8 +11,8 @@ use obs_plan::Observation;
 use std::alloc::{AllocError, Global};
 use std::marker::Model;
 
-/// The channels of an observation that are masked. A clause sees a mask as a list of marks, one for each channel, the
-/// highest frequency first.
+/// The masked channels of an observation. A clause sees a mask as a list of marks, one for each channel, the highest
+/// frequency first.
 #[derive(Drop)]
 pub struct Mask {
     pub(crate) masked: Vec<bool>,
@@ -27,8 +27,9 @@ impl Model for Mask {
 }
 
 impl Mask {
-    /// The mask that a text says of an observation: `none`, or items that are parted by commas, each a channel or two
-    /// that are joined by a hyphen, with all between them. Channels are counted in the order of the file.
+    /// Reads a mask text for an observation: `none`, or items with commas between them. An item is a channel, or two
+    /// channels with a hyphen between them, which stand for all from the one to the other. Channels count from 0 in the
+    /// order of the file.
     pub fn read(alloc: Global, text: &[u8], obs: &Observation) -> Result<Mask, MaskFault>
         ensures ok { IfOk result (IsMaskOf obs.now text.now) }
         ensures fault { IfErr result (ExplainsMask obs.now text.now) }
@@ -48,8 +49,8 @@ impl Mask {
         Ok(Mask { masked })
     }
 
-    /// Whether channel `c` is masked, counted from the highest frequency. Where the band rises, that is the channel of
-    /// the file with as many behind it.
+    /// Whether channel `c` is masked. `c` counts from the highest frequency; if the frequency of the file's channels
+    /// rises, that is from the end of the file's order.
     pub fn masked(&self, c: u32) -> bool
         requires { c < length self.now }
         ensures { result ≡ is_masked self.now c }
@@ -58,7 +59,7 @@ impl Mask {
     }
 }
 
-// The place in the order of the file of channel `c`, counted from the highest frequency.
+// The place in the order of the file of channel `c`, which counts from the highest frequency.
 fn place_in_file(channels: u32, is_falling: bool, c: u32) -> u32
     requires { c < channels }
     ensures { result ≡ place_of_channel channels is_falling c }
@@ -66,7 +67,7 @@ fn place_in_file(channels: u32, is_falling: bool, c: u32) -> u32
     if is_falling { c } else { channels - 1 - c }
 }
 
-// The marks of so many channels, the highest frequency first, where the ranges count them in the order of the file.
+// The marks of `channels` channels, the highest frequency first. The ranges count channels in the order of the file.
 fn marks(
     alloc: Global,
     ranges: &[ChannelRange],

@@ -1,4 +1,4 @@
-// The items of a mask text as ranges of channels.
+// Reads the items of a mask text as ranges of channels.
 ghost use Rattle.std.specs.Prelude.{◌≡◌, ◌==◌, ◌<◌, [], ◌∷◌, true, length, map, find, nat_le, codes, IfOk, IfSome, IfNone};
 ghost use Rattle.std.specs.List.{flat_map, list_any, position, slice_split};
 ghost use Rattle.std.specs.Str.{bytes_eq};
@@ -8,7 +8,7 @@ ghost use Rattle.channel_mask.specs.Ranges.{range_of as range_of_item, ends_of, 
 
 use std::alloc::{AllocError, Global};
 
-// The channels from one number to another, both included, in either order.
+// The channels from one number to the other, both included. Either may be the greater one.
 #[derive(Clone, Copy)]
 pub(crate) struct ChannelRange {
     from: u32,
@@ -16,7 +16,7 @@ pub(crate) struct ChannelRange {
 }
 
 impl ChannelRange {
-    // Whether a channel lies in it.
+    // Whether the range contains a channel.
     fn has(&self, channel: u32) -> bool
         ensures { result ≡ has_channel self.now channel }
     {
@@ -24,7 +24,7 @@ impl ChannelRange {
     }
 }
 
-// The number that 1 to 9 digits write.
+// The number that 1 to 9 decimal digits write.
 fn number(digits: &[u8]) -> u32
     requires { is_number digits.now ≡ true }
     ensures { result ≡ digits_value 10 digits.now }
@@ -36,7 +36,7 @@ fn number(digits: &[u8]) -> u32
     number
 }
 
-// The first place of a byte in a text.
+// The place of the first `byte` in a text, or `None`.
 fn place_of(byte: u8, text: &[u8]) -> Option<usize>
     ensures place { result ≡ position (λ b. b == byte) text.now }
     ensures within { IfSome result (λ at. at < length text.now) }
@@ -44,7 +44,7 @@ fn place_of(byte: u8, text: &[u8]) -> Option<usize>
     text.iter().position(|b| *b == byte)
 }
 
-// What stands before the first of such a byte, and behind it.
+// The text before the first `byte`, and the text behind it; `None` if there is no such byte.
 fn split_at_first(byte: u8, text: &[u8]) -> Option<(&[u8], &[u8])>
     ensures some { IfSome result (λ parts. slice_split (λ b. b == byte) text.now
         ≡ parts.0.now ∷ slice_split (λ b. b == byte) parts.1.now) }
@@ -77,7 +77,7 @@ fn range(item: &[u8]) -> ChannelRange
     }
 }
 
-// Whether a text masks no channels.
+// Whether a text is `none`.
 fn is_none(text: &[u8]) -> bool
     ensures { result ≡ bytes_eq text.now (codes "none") }
 {
@@ -102,7 +102,7 @@ pub(crate) fn ranges(alloc: Global, text: &[u8]) -> Result<Vec<ChannelRange>, Al
     Ok(ranges)
 }
 
-/// The first number that is not below the number of channels.
+/// The first number of the ranges that is not below `channels`, or `None`.
 pub(crate) fn first_outside(ranges: &[ChannelRange], channels: u32) -> Option<u32>
     ensures { result ≡ find (λ n. nat_le channels n) (flat_map ends_of ranges.now) }
 {
@@ -117,7 +117,7 @@ pub(crate) fn first_outside(ranges: &[ChannelRange], channels: u32) -> Option<u3
     None
 }
 
-/// Whether a channel lies in one of them.
+/// Whether one of the ranges contains a channel.
 pub(crate) fn are_naming(ranges: &[ChannelRange], channel: u32) -> bool
     ensures { result ≡ list_any (λ range. has_channel range channel) ranges.now }
 {

@@ -1,4 +1,4 @@
-// What of an observation is searched without the channels of a mask.
+// The scope of a search without the channels of a mask.
 ghost use Rattle.std.specs.Prelude.{◌≡◌, ◌≤◌, length, not, IfOk};
 ghost use Rattle.std.specs.List.{list_all};
 ghost use Rattle.dada_model.specs.Bounds.{most_delay};
@@ -16,8 +16,8 @@ use dada_model::edges_fall;
 use search_model::plain_is_unmasked;
 
 impl Mask {
-    /// What a search of delays up to `max_delay` searches of the observation that the mask was read for: the channels
-    /// that it keeps, by the cells of theirs that each delay path has. Where it masks none, nothing is counted.
+    /// The scope of a search of delays up to `max_delay` in the observation that the mask was read for: the channels
+    /// that the mask keeps, and how many of their cells each delay path has. If the mask is `none`, nothing is counted.
     pub fn scope(&self, alloc: Global, obs: &Observation, max_delay: u32) -> Result<Scope, Memory>
         requires channels { length self.now ≡ obs.now.channels }
         requires delay { max_delay ≤ most_delay }

@@ -16,7 +16,8 @@ use psr_base::Memory;
 use ring_core::{Answer, Core, Event};
 use std::alloc::Global;
 
-/// Whether a sum of so many samples of mean 16 and deviation 2.828 stands out by 7 deviations of the sum.
+/// Whether a sum of `cells` samples of mean 16 and standard deviation 2.828 lies at least 7 deviations of the sum above
+/// its mean.
 pub fn is_pulse(sum: u64, cells: u64) -> bool
     requires sum_fits { sum < 2 ^ 32 }
     requires cells_fit { cells ≤ 2 ^ 26 }
@@ -50,7 +51,7 @@ pub fn plain_sum(
     Ok(path_sum(samples, edges.len() - 1, delays.as_slice(), u))
 }
 
-/// The sum of a phase over the first `2^halvings` rows of a series, none of which is shifted.
+/// The fold sum of a phase over the first `2^halvings` rows of a series, none of them shifted.
 pub fn unshifted(series: &[u32], period: u32, halvings: u32, phase: u32) -> u64
     requires some { 1 ≤ halvings }
     requires few { halvings ≤ 12 }
@@ -61,7 +62,7 @@ pub fn unshifted(series: &[u32], period: u32, halvings: u32, phase: u32) -> u64
     fold_sum(series, period, halvings, 0, phase)
 }
 
-/// A reader of a ring asks for its next block. The machine goes on as its table says.
+/// A reader of a ring asks for its next block.
 pub fn ask(core: &mut Core, reader: u32) -> Answer
     ensures steps { Steps core.old (event_of (Event.ReaderTake reader)) (answer_of result) core.new }
     ensures refused { result ≡ Answer.Refused → core.new ≡ core.old }

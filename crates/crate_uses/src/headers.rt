@@ -14,8 +14,8 @@ pub enum Refused {
     Observation(ObsFault),
 }
 
-/// The dispersion measure of a pulse whose foot comes so many spectra after its top, in thousandths of pc/cm^3, in the
-/// observation of the header that the bytes begin with.
+/// The dispersion measure, in thousandths of pc/cm^3, of a pulse that reaches the bottom of the band `delay` spectra
+/// after its top. The bytes begin with the header of the observation.
 pub fn dispersion(alloc: Global, bytes: &[u8], delay: u32) -> Result<u64, Refused>
     requires { delay ≤ most_delay }
     ensures ok { IfOk result (HasDispersion bytes.now delay) }

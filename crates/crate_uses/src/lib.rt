@@ -1,5 +1,5 @@
-//! What somebody writes who takes one part of this repository into a program of their own, and that it reads back as
-//! the contracts of that part say: headers, the ring, folds, path sums. docs/USING.md shows these files.
+//! Examples for programs that use one part of this repository, each with its contract: headers, the ring, folds, path
+//! sums, a search. docs/USING.md shows these files.
 #![tactic(auto)]
 
 pub mod calls;

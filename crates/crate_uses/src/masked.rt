@@ -11,7 +11,7 @@ use obs_plan::{Observation, Search};
 use search_engine::PlanFault;
 use std::alloc::Global;
 
-/// A search of all data bytes of an observation in the channels that a mask keeps, whose book has their candidates.
+/// Searches all data bytes of an observation in the channels that a mask keeps. The engine's book has their candidates.
 pub fn found_without(
     alloc: Global,
     observation: &Observation,

@@ -5,8 +5,8 @@ use arrayvec::ArrayVec;
 use ring_ends::{EndedReader, Mark, Ring, RingShape, order_is_enough};
 use std::alloc::Global;
 
-/// Hands bytes through a ring with one reader, who copies them to the front of `into`; answers how many they were, or
-/// `None`, and no clause says when.
+/// Hands bytes through a ring with one reader, which copies them to the front of `into`. Answers how many bytes were
+/// copied. No clause says when the answer is `None`.
 pub fn hand_on(alloc: Global, bytes: &[u8], into: &mut [u8]) -> Option<u32>
     requires some { 1 ≤ length bytes.now }
     requires most { length bytes.now ≤ 2 ^ 24 }

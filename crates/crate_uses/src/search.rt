@@ -13,7 +13,7 @@ use obs_plan::{Observation, Search};
 use search_engine::{Engine, PlanFault};
 use std::alloc::Global;
 
-/// The candidates of a shard over all data bytes of an observation: the first of them, and how many there are.
+/// The candidates of a shard over all data bytes of an observation: the first ones, and the number of all.
 pub fn found(
     alloc: Global,
     observation: &Observation,

@@ -61,7 +61,7 @@ fn a_pulse_is_dedispersed(rt: HostRuntime) -> Result<(), Memory> {
     Ok(())
 }
 
-// The pulse of that test, above a mean of 1.
+// A search for the pulse of `a_pulse_is_dedispersed`, above a mean of 1.
 const SEARCH: Search = Search {
     min_delay: 0,
     max_delay: 1,
@@ -78,7 +78,7 @@ const SEARCH: Search = Search {
     snr: 700,
 };
 
-// What the search finds, where there is memory.
+// The first candidate of that search and the number of all, if there is memory.
 fn candidates(alloc: Global) -> Option<(Candidate, u64)> {
     let bytes = header(b"NCHAN 2\nNBIT 8\nTSAMP 64\nFREQ 1400\nBW -200\n");
     let header = Header::read(alloc, &bytes).ok()?;

@@ -19,8 +19,8 @@ fn copied(alloc: Global, row: &[u32]) -> Result<Vec<u32>, Memory>
     Ok(Vec::from_slice(alloc, row)?)
 }
 
-/// The sums along the path of a delay that end at each of the first spectra. The edges of the channels are in kHz, the
-/// highest first; the samples of channel `c`, 255 at most, begin at `c * spectra`.
+/// The sums along the path of a delay that end at each of the first `spectra` spectra. The edges of the channels are in
+/// kHz, the highest first; the samples of channel `c`, at most 255, begin at `c * spectra`.
 pub fn dedispersed(
     alloc: Global,
     edges: &[u32],

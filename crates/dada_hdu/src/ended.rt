@@ -1,10 +1,10 @@
-//! Readers, however they ended.
+//! The readers of both rings when these end.
 ghost use Rattle.std.specs.Prelude.{◌≡◌, length};
 
 use crate::passes::{HduDetached, HduReader, HduRetired};
 use ring_ends::EndedReader;
 
-/// A reader of both rings, however it ended.
+/// A reader of both rings when these end.
 #[derive(Drop)]
 pub enum HduEnded {
     /// It was still reading.
@@ -19,7 +19,7 @@ impl HduEnded {
     ghost use Rattle.ring_ends.specs.Passes.{ended_knows};
     ghost use Rattle.dada_hdu.specs.Passes.{header_end, data_end};
 
-    /// The reader's number in its rings, from 0 on.
+    /// The reader's number in both rings, from 0.
     pub fn number(&self) -> u32
         ensures { result ≡ (ended_knows (data_end self.now)).number }
     {
@@ -30,7 +30,7 @@ impl HduEnded {
         }
     }
 
-    /// How many headers the reader cleared.
+    /// The number of headers that the reader cleared.
     pub fn cleared_headers(&self) -> u64
         ensures { result ≡ length (ended_knows (header_end self.now)).cleared }
     {
@@ -41,18 +41,7 @@ impl HduEnded {
         }
     }
 
-    /// How many blocks of data the reader cleared.
-    pub fn cleared_blocks(&self) -> u64
-        ensures { result ≡ length (ended_knows (data_end self.now)).cleared }
-    {
-        match self {
-            HduEnded::Here(reader) => reader.blocks.cleared(),
-            HduEnded::Away(reader) => reader.blocks.cleared(),
-            HduEnded::Retired(reader) => reader.blocks.cleared(),
-        }
-    }
-
-    // As a reader of the header ring, and as one of the data ring.
+    // The reader of the header ring, and the reader of the data ring.
     pub(crate) fn into_both(self) -> (EndedReader, EndedReader)
         ensures header { result.0 ≡ header_end self }
         ensures blocks { result.1 ≡ data_end self }

@@ -1,4 +1,4 @@
-//! The end of both rings, when all passes are back.
+//! The end of both rings, once all passes are back.
 ghost use Rattle.std.specs.Prelude.{◌≡◌, option_map};
 ghost use Rattle.dada_hdu.specs.Passes.{header_ring, data_ring, header_end, data_end, header_ends, data_ends, WritesBoth};
 
@@ -9,14 +9,16 @@ use arrayvec::ArrayVec;
 use ring_ends::{EndedReader, Finished};
 use ring_words::MOST_READERS;
 
-/// What went through the header ring, and what through the data ring (`blocks`).
+/// What went through both rings.
 #[derive(Drop)]
 pub struct HduFinished {
+    /// What went through the header ring.
     pub header: Finished,
+    /// What went through the data ring.
     pub blocks: Finished,
 }
 
-// A reader's two passes.
+// The two passes of a reader.
 fn both_of(ended: Option<HduEnded>) -> (Option<EndedReader>, Option<EndedReader>)
     ensures header { result.0 ≡ option_map header_end ended }
     ensures blocks { result.1 ≡ option_map data_end ended }
@@ -30,7 +32,7 @@ fn both_of(ended: Option<HduEnded>) -> (Option<EndedReader>, Option<EndedReader>
     }
 }
 
-// The readers' passes of the header ring, and those of the data ring, at the same places.
+// The passes of the header ring and those of the data ring, in the order of the readers.
 fn part(
     mut readers: ArrayVec<Option<HduEnded>, MOST_READERS>,
 ) -> (
@@ -53,7 +55,7 @@ fn part(
 impl Hdu {
     ghost use Rattle.dada_hdu.specs.Ended.{AllReadersOfBoth, RingFinished};
 
-    /// Ends both rings. The passes are all that they had, the readers in any order.
+    /// Ends both rings. `readers` are all readers that they had, in any order.
     pub fn finish(
         self,
         writer: HduWriter,

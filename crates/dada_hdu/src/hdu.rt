@@ -1,4 +1,4 @@
-//! The two rings that threads share by reference.
+//! The two rings, which threads share by reference.
 ghost use Rattle.std.specs.Prelude.{◌≡◌, ◌≤◌, All, EachIndex, IfOk, OnErr, IsSomeAnd, length, take, true, Some};
 ghost use Rattle.ring_ends.specs.Passes.{ring_shape};
 ghost use Rattle.dada_hdu.specs.Shapes.{header_shape};
@@ -14,7 +14,8 @@ use ring_ends::{BlockTaker, Mark, ReadStop, ReaderPass, Ring, RingShape, Taken, 
 use ring_words::MOST_READERS;
 use std::alloc::Global;
 
-/// A header ring of 2 buffers of 65537 bytes, and a data ring. Both have the same readers, and carry as many blocks.
+/// A header ring of 2 buffers of 65537 bytes, and a data ring. Both have the same readers and the same largest number
+/// of blocks.
 #[derive(Drop)]
 pub struct Hdu {
     pub(crate) header: Ring,
@@ -22,7 +23,7 @@ pub struct Hdu {
     ghost alike: { ring_shape header ≡ header_shape (ring_shape blocks) },
 }
 
-// The passes of one reader.
+// The reader with these two passes.
 fn reader_of(header: Option<ReaderPass>, blocks: Option<ReaderPass>) -> Option<HduReader>
     ensures { Pairs header blocks result }
 {
@@ -31,7 +32,7 @@ fn reader_of(header: Option<ReaderPass>, blocks: Option<ReaderPass>) -> Option<H
     Some(HduReader { header, blocks })
 }
 
-// The readers of both rings, of which those at one place are one.
+// Joins reader i of the header ring and reader i of the data ring.
 fn readers_of(
     mut headers: ArrayVec<Option<ReaderPass>, MOST_READERS>,
     mut blocks: ArrayVec<Option<ReaderPass>, MOST_READERS>,
@@ -55,7 +56,8 @@ impl Hdu {
     ghost use Rattle.dada_hdu.specs.Passes.{data_shape, WritesBoth, ReadsBoth, RetiredFromBoth, IsFreshWriter, HasFreshReader};
     ghost use Rattle.dada_hdu.specs.Answers.{entry, header_entry, WriteAnswers, ReadAnswers, LendAnswers, ClearAnswers};
 
-    /// Opens a data ring of this shape, and a header ring beside it. The reader at place i has number i in both.
+    /// Opens a data ring of this shape and a header ring beside it. The reader at place `i` has number `i` in both
+    /// rings.
     pub fn open(
         alloc: Global,
         shape: RingShape,
@@ -83,7 +85,7 @@ impl Hdu {
         Ok((Hdu { header, blocks }, writer, readers))
     }
 
-    /// The measures of the data ring.
+    /// The shape of the data ring.
     pub fn shape(&self) -> RingShape
         ensures shape { result ≡ data_shape self.now }
         ensures ring { IsRing result }
@@ -91,7 +93,7 @@ impl Hdu {
         self.blocks.shape()
     }
 
-    /// Seals the bytes of a header as the next block of the header ring, marked End, and answers its number.
+    /// Seals the bytes of a header as the next block of the header ring, with the mark `End`, and returns its number.
     pub fn write_header(&self, pass: &mut HduWriter, header: &Header) -> Result<u64, WriteStop>
         requires ring { WritesBoth self.now pass.old }
         ensures ring { WritesBoth self.now pass.new }
@@ -104,8 +106,8 @@ impl Hdu {
             .write(&mut pass.header, header.bytes(), Mark::End)
     }
 
-    /// Copies the header that comes after those that the reader cleared to the front of `into`, which has at least
-    /// `HEADER_SPACE` bytes. Until it is cleared, the same header is read again. An error leaves `into` as it was.
+    /// Copies the reader's next header, the one after those that it cleared, to the front of `into`, which has at least
+    /// `HEADER_SPACE` bytes. Until the header is cleared, each read copies it again. An error leaves `into` as it was.
     pub fn read_header(&self, pass: &mut HduReader, into: &mut [u8]) -> Result<Taken, ReadStop>
         requires ring { ReadsBoth self.now pass.old }
         requires room { 65537 ≤ length into.old }
@@ -116,7 +118,7 @@ impl Hdu {
         self.header.read(&mut pass.header, into)
     }
 
-    /// Counts the header that was read as cleared, and answers the new count.
+    /// Counts the header that was read as cleared, and returns the new count.
     pub fn clear_header(&self, pass: &mut HduReader) -> u64
         requires ring { ReadsBoth self.now pass.old }
         requires read { is_read pass.old.header ≡ true }
@@ -127,8 +129,8 @@ impl Hdu {
         self.header.clear(&mut pass.header)
     }
 
-    /// Fills the next block of the data ring, seals it, and answers its number. The bytes fill a block that is marked
-    /// More, are fewer where it is marked End, and none where it is marked Cut. An error seals nothing.
+    /// Fills the next block of the data ring, seals it, and returns its number. With the mark `More` the bytes fill a
+    /// block, with `End` they are fewer, and with `Cut` there are none. An error seals nothing.
     pub fn write(&self, pass: &mut HduWriter, bytes: &[u8], mark: Mark) -> Result<u64, WriteStop>
         requires ring { WritesBoth self.now pass.old }
         requires fits { FitsMark (data_shape self.now).size mark bytes.now }
@@ -140,8 +142,8 @@ impl Hdu {
         self.blocks.write(&mut pass.blocks, bytes, mark)
     }
 
-    /// Seals the first `used` bytes of the space as the next block of the data ring, and answers its number. No byte is
-    /// copied: the space and that of the block change places.
+    /// Seals the first `used` bytes of `space` as the next block of the data ring, with this mark, and returns its
+    /// number. No byte is copied: the block and the caller swap their spaces, which have one size.
     pub fn write_space(
         &self,
         pass: &mut HduWriter,
@@ -163,14 +165,14 @@ impl Hdu {
         self.blocks.write_space(&mut pass.blocks, space, used, mark)
     }
 
-    /// Whether the data ring has room for a block at this moment. The pass stays as it is, and no look is counted. It
-    /// is a hint: no clause speaks of the answer.
+    /// Whether the data ring has room for a block at this moment. The pass doesn't change, and no look is counted. The
+    /// answer is a hint: no clause speaks of it.
     pub fn has_room(&self, pass: &HduWriter) -> bool {
         self.blocks.has_room(&pass.blocks)
     }
 
-    /// Copies the block of data that comes after those that the reader cleared to the front of `into`. Until it is
-    /// cleared, the same block is read again.
+    /// Copies the reader's next data block, the one after those that it cleared, to the front of `into`. Until the
+    /// block is cleared, each read copies it again.
     pub fn read(&self, pass: &mut HduReader, into: &mut [u8]) -> Result<Taken, ReadStop>
         requires ring { ReadsBoth self.now pass.old }
         requires room { (data_shape self.now).size ≤ length into.old }
@@ -181,9 +183,9 @@ impl Hdu {
         self.blocks.read(&mut pass.blocks, into)
     }
 
-    /// Lends the block of data that comes after those that the reader cleared to a part of a taker, which takes its
-    /// bytes where they lie. Meanwhile the reader holds the buffer, and others that read the block find it busy. Until
-    /// it is cleared, the same block is lent again.
+    /// Lends the reader's next data block to `taker`, for its part `part`, which takes the bytes from the place where
+    /// they lie. Meanwhile the reader holds the buffer, and other readers find the block busy. Until the block is
+    /// cleared, each call lends it again.
     pub fn read_to<T: BlockTaker>(
         &self,
         pass: &mut HduReader,
@@ -201,7 +203,7 @@ impl Hdu {
         self.blocks.read_to(&mut pass.blocks, taker, part)
     }
 
-    /// Counts the block of data that was read as cleared, and answers the new count.
+    /// Counts the data block that was read as cleared, and returns the new count.
     pub fn clear(&self, pass: &mut HduReader) -> u64
         requires ring { ReadsBoth self.now pass.old }
         requires read { is_read pass.old.blocks ≡ true }
@@ -212,15 +214,15 @@ impl Hdu {
         self.blocks.clear(&mut pass.blocks)
     }
 
-    /// Whether a read of a header or of data would find its block at this moment. The pass stays as it is, and no try
-    /// is counted. It is a hint: no clause speaks of the answer.
+    /// Whether a read of a header or of a data block would find one at this moment. The pass doesn't change, and no try
+    /// is counted. The answer is a hint: no clause speaks of it.
     pub fn has_next(&self, pass: &HduReader) -> bool
         requires { ReadsBoth self.now pass.now }
     {
         self.blocks.has_next(&pass.blocks) || self.header.has_next(&pass.header)
     }
 
-    /// The writer no longer waits for this reader, in either ring.
+    /// Retires the reader in both rings: the writer no longer waits for it.
     pub fn retire(&self, pass: HduReader) -> HduRetired
         requires { ReadsBoth self.now pass }
         ensures ring { RetiredFromBoth self.now result }

@@ -1,7 +1,7 @@
-//! Laws, as calls that do nothing when they run.
+//! Laws, as functions that do nothing when they run.
 ghost use Rattle.dada_hdu.specs.Ended.{OrderIsEnough};
 
-/// As many readers as there are, each at the place of its number, are all readers of both rings.
+/// If a list has as many readers as both rings, each at the place of its number, it has all readers of both rings.
 pub fn order_is_enough()
     ensures { OrderIsEnough }
 {

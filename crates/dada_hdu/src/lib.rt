@@ -1,4 +1,4 @@
-//! Two rings as one, a header and data unit (PSRDADA manual): a header ring and a data ring with the same readers.
+//! A header and data unit (PSRDADA manual): a header ring and a data ring with the same readers, used as one.
 //!
 //! Each transfer has a block in the header ring and its data in the data ring. No call after `Hdu::open` takes memory
 //! or waits.

@@ -1,33 +1,41 @@
-//! The passes of both rings, side by side.
+//! The passes of both rings in pairs.
 ghost use Rattle.std.specs.Prelude.{◌≡◌};
 
 use ring_ends::{DetachedReader, ReaderPass, RetiredPass, WriterPass};
 
-/// The right to write to both rings: `header` is the pass of the header ring, `blocks` that of the data ring.
+/// The right to write to both rings.
 #[derive(Drop)]
 pub struct HduWriter {
+    /// The pass of the header ring.
     pub header: WriterPass,
+    /// The pass of the data ring.
     pub blocks: WriterPass,
 }
 
 /// The right to read from both rings, as one of their registered readers.
 #[derive(Drop)]
 pub struct HduReader {
+    /// The pass of the header ring.
     pub header: ReaderPass,
+    /// The pass of the data ring.
     pub blocks: ReaderPass,
 }
 
-/// A registered reader that reads nothing for now. The writer waits for it.
+/// A registered reader that reads nothing for now. The writer still waits for it.
 #[derive(Drop)]
 pub struct HduDetached {
+    /// The pass of the header ring.
     pub header: DetachedReader,
+    /// The pass of the data ring.
     pub blocks: DetachedReader,
 }
 
 /// A reader that the writer no longer waits for.
 #[derive(Drop)]
 pub struct HduRetired {
+    /// The pass of the header ring.
     pub header: RetiredPass,
+    /// The pass of the data ring.
     pub blocks: RetiredPass,
 }
 
@@ -35,14 +43,14 @@ impl HduReader {
     ghost use Rattle.ring_ends.specs.Passes.{reader_knows};
     ghost use Rattle.dada_hdu.specs.Answers.{IsDetached};
 
-    /// The reader's number in its rings, from 0 on.
+    /// The reader's number in both rings, from 0.
     pub fn number(&self) -> u32
         ensures { result ≡ (reader_knows self.now.blocks).number }
     {
         self.blocks.number()
     }
 
-    /// Stops reading for now. What was read and not cleared is forgotten, so that it is read again later.
+    /// Stops reading for now. If a header or a data block was read but not cleared, it is read again later.
     pub fn detach(self) -> HduDetached
         ensures header { IsDetached self.header result.header }
         ensures blocks { IsDetached self.blocks result.blocks }
@@ -59,14 +67,14 @@ impl HduDetached {
     ghost use Rattle.ring_ends.specs.Passes.{detached_knows};
     ghost use Rattle.dada_hdu.specs.Answers.{IsAttached};
 
-    /// The reader's number in its rings, from 0 on.
+    /// The reader's number in both rings, from 0.
     pub fn number(&self) -> u32
         ensures { result ≡ (detached_knows self.now.blocks).number }
     {
         self.blocks.number()
     }
 
-    /// Goes on reading with the first block of each ring that was not cleared.
+    /// Reads again, from the first block of each ring that was not cleared.
     pub fn attach(self) -> HduReader
         ensures header { IsAttached self.header result.header }
         ensures blocks { IsAttached self.blocks result.blocks }
@@ -82,7 +90,7 @@ impl HduDetached {
 impl HduRetired {
     ghost use Rattle.ring_ends.specs.Passes.{retired_knows};
 
-    /// The reader's number in its rings, from 0 on.
+    /// The reader's number in both rings, from 0.
     pub fn number(&self) -> u32
         ensures { result ≡ (retired_knows self.now.blocks).number }
     {

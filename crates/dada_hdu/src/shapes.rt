@@ -1,14 +1,14 @@
-// The measures of the header ring.
+// The shape of the header ring.
 ghost use Rattle.std.specs.Prelude.{◌≡◌};
 ghost use Rattle.dada_hdu.specs.Shapes.{header_shape};
 
 use ring_ends::RingShape;
 
-/// The space of a block of the header ring in bytes, one more than the longest header, so that each header fits a
-/// block that ends a transfer.
+/// The size of a block of the header ring, in bytes: one more than the longest header, so that any header fits a block
+/// with the mark `End`.
 pub const HEADER_SPACE: u32 = 65537;
 
-// Of the header ring beside a data ring of this shape.
+// The shape of the header ring beside a data ring of this shape.
 pub(crate) fn shape_of_headers(blocks: RingShape) -> RingShape
     ensures { result ≡ header_shape blocks }
 {

@@ -1,4 +1,4 @@
-// Fields that become blank.
+// Making fields blank.
 ghost use Rattle.std.specs.Prelude.{◌≡◌, if◌then◌else◌, length};
 ghost use Rattle.dada_model.specs.Change.{spaces, has_key, blanked_line, blanked};
 
@@ -7,14 +7,14 @@ use crate::words::{Place, without_comment};
 // A law: it does nothing when it runs, and the proofs use what it ensures.
 use dada_model::fields_by_lines;
 
-/// Makes bytes blank.
+/// Overwrites all bytes with spaces.
 pub(crate) fn fill_spaces(bytes: &mut [u8])
     ensures { bytes.new ≡ spaces (length bytes.old) }
 {
     bytes.fill(b' ');
 }
 
-// Makes a line blank up to its comment.
+// Overwrites a line with spaces, up to its comment.
 #[tactic(auto, unfolding(dada_model::specs::Change::blanked_line))]
 fn blank_line(line: &mut [u8])
     ensures { line.new ≡ blanked_line line.old }
@@ -23,7 +23,7 @@ fn blank_line(line: &mut [u8])
     fill_spaces(&mut line[..end]);
 }
 
-// Makes a line blank up to its comment, if it is a field with a key.
+// Overwrites a line with spaces up to its comment, if it is a field with the key.
 fn blank_field(line: &mut [u8], key: &[u8])
     ensures { line.new ≡ (if has_key key.now line.old then blanked_line line.old else line.old) }
 {
@@ -32,7 +32,7 @@ fn blank_field(line: &mut [u8], key: &[u8])
     }
 }
 
-/// Makes each line that is a field with a key blank up to its comment.
+/// Overwrites each line that is a field with the key with spaces, up to its comment.
 pub(crate) fn blank_fields(text: &mut [u8], key: &[u8])
     ensures { text.new ≡ blanked key.now text.old }
 {

@@ -1,4 +1,4 @@
-// Changes of a text in the bytes of its header.
+// Changing a field of a text in the bytes of its header.
 ghost use Rattle.std.specs.Prelude.{◌≡◌, ◌+◌, ◌-◌, ◌^◌, ◌≤◌, ◌==◌, min, ◌++◌, IfSome, IfNone, length, take, slice_index_or};
 ghost use Rattle.dada_model.specs.Fields.{most_header};
 ghost use Rattle.dada_model.specs.Change.{line_end, field_line, with_value_between, changed};
@@ -9,7 +9,7 @@ use crate::words::Place;
 // A law: it does nothing when it runs, and the proofs use what it ensures.
 use dada_model::blank_keeps_length;
 
-// Puts a piece into bytes, and says where it ends.
+// Copies `piece` into `bytes` from `place` on, and returns the place after it.
 fn put(bytes: &mut [u8], place: usize, piece: &[u8]) -> usize
     requires { place + length piece.now ≤ length bytes.old }
     ensures { IsPut place piece.now bytes.old bytes.new result }
@@ -29,7 +29,7 @@ fn is_ended(text: &[u8]) -> bool
     }
 }
 
-// The line feed that a text needs before another line.
+// The line feed that is needed before another line: none if the text is empty or ends in one.
 #[tactic(auto, unfolding(dada_model::specs::Change::line_end))]
 fn line_feed_after(text: &[u8]) -> &'static [u8]
     ensures { result.now ≡ line_end text.now }
@@ -37,7 +37,7 @@ fn line_feed_after(text: &[u8]) -> &'static [u8]
     if is_ended(text) { b"" } else { b"\n" }
 }
 
-// The place of the first value of a key, if another value fits there.
+// The place of the first value of a key, if the new value fits there.
 fn overwritten_place(text: &[u8], key: &[u8], value: &[u8]) -> Option<Place>
     ensures some { IfSome result (IsOverwrite key.now value.now text.now) }
     ensures none { IfNone result (IsAppended key.now value.now text.now) }
@@ -52,7 +52,7 @@ fn overwritten_place(text: &[u8], key: &[u8], value: &[u8]) -> Option<Place>
     }
 }
 
-// The length of a text to which a line is appended.
+// The length of the text after a line with the field is appended.
 fn appended_len(text: &[u8], key: &[u8], value: &[u8]) -> usize
     requires { length text.now ≤ most_header }
     ensures { let line = line_end text.now ++ field_line key.now value.now in
@@ -62,7 +62,8 @@ fn appended_len(text: &[u8], key: &[u8], value: &[u8]) -> usize
     line.saturating_add(text.len() + line_feed_after(text).len() + 2)
 }
 
-/// The place of the value that is overwritten, or `None` where a line is appended; and the changed text's length.
+/// How a text is changed: the place of the value that is overwritten, or `None` if a line is appended, and the length
+/// of the changed text.
 pub(crate) fn plan(text: &[u8], key: &[u8], value: &[u8]) -> (Option<Place>, usize)
     requires { length text.now ≤ most_header }
     ensures plan { IsChangePlan key.now value.now text.now result.0 }
@@ -75,7 +76,7 @@ pub(crate) fn plan(text: &[u8], key: &[u8], value: &[u8]) -> (Option<Place>, usi
     }
 }
 
-// Writes a value in place of a longer one or one of its length, and spaces after it.
+// Writes `value` at the front of `place`, which has room for it, and spaces into the rest of `place`.
 fn overwrite(text: &mut [u8], place: Place, value: &[u8])
     requires ordered { place.start + length value.now ≤ place.end }
     requires within { place.end ≤ length text.old }
@@ -85,7 +86,7 @@ fn overwrite(text: &mut [u8], place: Place, value: &[u8])
     fill_spaces(&mut text[end..place.end]);
 }
 
-// Puts the line of a field into bytes, and says where it ends.
+// Writes the line of a field from `place` on, and returns the place after it.
 fn put_field(bytes: &mut [u8], place: usize, key: &[u8], value: &[u8]) -> usize
     requires { place + length (field_line key.now value.now) ≤ length bytes.old }
     ensures { IsPut place (field_line key.now value.now) bytes.old bytes.new result }
@@ -96,8 +97,8 @@ fn put_field(bytes: &mut [u8], place: usize, key: &[u8], value: &[u8]) -> usize
     put(bytes, end, b"\n")
 }
 
-// Makes the fields of a key blank in the text that the first `len` bytes are, and appends a line with
-// another value; says where that ends.
+// In the text that the first `len` bytes are, makes the fields with the key blank and appends a line with the new
+// value. Returns the new length of the text.
 fn replace(bytes: &mut [u8], len: usize, key: &[u8], value: &[u8]) -> usize
     requires len { len ≤ length bytes.old }
     requires room { let line = line_end (take len bytes.old) ++ field_line key.now value.now in
@@ -111,7 +112,7 @@ fn replace(bytes: &mut [u8], len: usize, key: &[u8], value: &[u8]) -> usize
     put_field(bytes, end, key, value)
 }
 
-/// Changes the text that the first `len` bytes are, as planned, and says how long it is then.
+/// Changes the text that the first `len` bytes are, as `plan` says, and returns its new length.
 pub(crate) fn edit(
     bytes: &mut [u8],
     len: usize,

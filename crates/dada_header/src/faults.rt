@@ -1,20 +1,23 @@
-// Why bytes are no header, and why a header isn't changed.
+// Why bytes are no header, and why a header can't be changed.
 ghost use Rattle.std.specs.Prelude.{◌≡◌};
 
 use psr_base::Memory;
 use thiserror::Error;
 
-/// Why bytes are no header, in the order in which they are judged: fewer than 4096 of them (`had` is their
-/// number); an HDR_SIZE that is no number or outside 4096..=65536; fewer of them than HDR_SIZE says; a byte
-/// of the text above 127 (`place` is that of the first). `Memory` may come instead.
+/// Why bytes are no header. They are judged in this order: fewer than 4096 bytes, HDR_SIZE, fewer bytes than HDR_SIZE
+/// says, the text. `Memory` may come instead.
 #[derive(Clone, Copy, PartialEq, Eq, Debug, Drop, Error)]
 pub enum HeaderFault {
+    /// There are fewer than 4096 bytes, or fewer than HDR_SIZE says. `had` is their number.
     #[error("a header with {had} bytes is too short")]
     Short { had: usize },
+    /// A byte of the text is above 127. `place` is that of the first one.
     #[error("the header's byte {place} is no text")]
     NotText { place: usize },
+    /// The value of HDR_SIZE is no number, or not from 4096 to 65536.
     #[error("HDR_SIZE is no number from 4096 to 65536")]
     BadSize,
+    /// There was no memory.
     #[error("no memory for a header")]
     Memory,
 }
@@ -29,9 +32,10 @@ impl From<Memory> for HeaderFault {
     }
 }
 
-/// The changed text would fill the header's size or more: `need` is its length.
+/// Why a header can't be changed.
 #[derive(Clone, Copy, PartialEq, Eq, Debug, Drop, Error)]
 pub enum SetFault {
+    /// The changed text would have `need` bytes, which is not less than `size`, the size of the header.
     #[error("{need} bytes of text do not fit a header of {size} bytes")]
     Overfull { need: usize, size: usize },
 }

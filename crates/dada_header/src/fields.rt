@@ -1,4 +1,4 @@
-// The lines of a text that are fields with a key.
+// Finding the lines of a text that are fields with a key.
 ghost use Rattle.std.specs.Prelude.{◌≡◌, ◌≤◌, false, IfSome, IfNone, None, ◌==◌, length, position};
 ghost use Rattle.dada_model.specs.Fields.{fields_of, value_of};
 ghost use Rattle.dada_model.specs.Change.{has_key};
@@ -15,7 +15,7 @@ fn first_line_feed(text: &[u8]) -> Option<usize>
     text.iter().position(|byte| *byte == b'\n')
 }
 
-/// Where the line ends that begins at a place in a text.
+/// The place where the line that begins at `from` ends.
 pub(crate) fn line_end(text: &[u8], from: usize) -> usize
     requires { from ≤ length text.now }
     ensures { IsLineEnd text.now from result }
@@ -29,7 +29,7 @@ pub(crate) fn line_end(text: &[u8], from: usize) -> usize
 impl Place {
     ghost use Rattle.dada_header.specs.Places.{IsValueAt, IsFirstValueAt};
 
-    /// The value of a line that is a field with a key.
+    /// The place of the value of a line, if the line is a field with the key.
     pub(crate) fn of_value(line: &[u8], key: &[u8]) -> Option<Place>
         ensures some { IfSome result (IsValueAt key.now line.now) }
         ensures none { IfNone result (has_key key.now line.now ≡ false) }
@@ -44,7 +44,7 @@ impl Place {
         }
     }
 
-    /// The value of the first field of a text with a key.
+    /// The place of the value of the first field of a text with the key.
     pub(crate) fn of_first_value(text: &[u8], key: &[u8]) -> Option<Place>
         ensures some { IfSome result (IsFirstValueAt key.now text.now) }
         ensures none { IfNone result (value_of key.now (fields_of text.now) ≡ None) }

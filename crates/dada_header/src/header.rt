@@ -1,4 +1,4 @@
-// Headers: their size and their text in a space as long as the greatest header.
+// Headers: their size and their text, in a space that has room for the largest header.
 ghost use Rattle.std.specs.Prelude.{◌≡◌, ◌≢◌, ℕ, ◌-◌, ◌<◌, ◌≤◌, List, [], ◌++◌, All, length, take, replicate, Ok, Err, Some, None, OnOk, IfOk, IfErr, option_copied, codes, position, ◌==◌};
 ghost use Rattle.dada_model.specs.Fields.{least_header, most_header, HeaderText, fields_of, value_of, before_nul, header_size, header_of, header_bytes, is_above_ascii, allowed_size};
 ghost use Rattle.dada_model.specs.Number.{number_value};
@@ -21,10 +21,10 @@ use std::alloc::{AllocError, Global};
 use std::marker::Model;
 use std::str;
 
-/// The least size of a header, and its size where HDR_SIZE is missing.
+/// The smallest size of a header, and its size if it has no HDR_SIZE.
 const LEAST: usize = 4096;
 
-/// The greatest size of a header: each has so much space.
+/// The largest size of a header. Each header has this much space.
 const MOST: usize = 65536;
 
 /// A header: a size in bytes, and a text in ASCII without NUL that is at most as long.
@@ -50,7 +50,7 @@ fn first_nul(bytes: &[u8]) -> Option<usize>
     bytes.iter().position(|byte| *byte == 0)
 }
 
-// The bytes before the first NUL, or all where there is none.
+// The bytes before the first NUL, or all bytes if there is none.
 fn before_nul_of(bytes: &[u8]) -> &[u8]
     ensures { result.now ≡ before_nul bytes.now }
 {
@@ -60,7 +60,7 @@ fn before_nul_of(bytes: &[u8]) -> &[u8]
     }
 }
 
-// The size that a value of HDR_SIZE gives.
+// The size that a value of HDR_SIZE gives, if it is one.
 fn size_in(value: &[u8]) -> Option<usize>
     ensures { result ≡ allowed_size (number_value 0 value.now) }
 {
@@ -79,7 +79,7 @@ fn first_above_ascii(bytes: &[u8]) -> Option<usize>
     bytes.iter().position(|byte| *byte > 127)
 }
 
-// The text of a header whose size is known.
+// The text of a header of a known size.
 fn text_of(bytes: &[u8], size: usize) -> Result<&[u8], HeaderFault>
     requires long { least_header ≤ length bytes.now }
     requires size { header_size bytes.now ≡ Some size }
@@ -98,7 +98,7 @@ fn text_of(bytes: &[u8], size: usize) -> Result<&[u8], HeaderFault>
     }
 }
 
-// So many zeros.
+// `len` zeros.
 fn zeros(alloc: Global, len: usize) -> Result<Vec<u8>, AllocError>
     ensures len { IfOk result (λ zeros. length zeros.items ≡ len) }
     ensures zero { IfOk result (λ zeros. zeros.items ≡ replicate (length zeros.items) 0) }
@@ -106,7 +106,7 @@ fn zeros(alloc: Global, len: usize) -> Result<Vec<u8>, AllocError>
     Vec::from_elem(alloc, 0, len)
 }
 
-// Puts a text into a space, and NUL after it up to a size.
+// Writes a text into a space, and NUL after it up to `size`.
 fn write_text(space: &mut [u8], text: &[u8], size: usize)
     requires fits { length text.now ≤ size }
     requires room { size ≤ length space.old }
@@ -116,7 +116,7 @@ fn write_text(space: &mut [u8], text: &[u8], size: usize)
     space[text.len()..size].fill(0);
 }
 
-// Bytes in ASCII as a text; the test never fails.
+// ASCII bytes as a text. It never fails for them.
 fn ascii_text(bytes: &[u8]) -> Option<&str>
     requires { All (λ byte. byte < 128) bytes.now }
     ensures { option_copied result ≡ Some bytes.now }
@@ -128,7 +128,7 @@ fn ascii_text(bytes: &[u8]) -> Option<&str>
 }
 
 impl Header {
-    /// A header of the least size with an empty text.
+    /// A header of 4096 bytes with an empty text.
     pub fn blank(alloc: Global) -> Result<Header, Memory>
         ensures { IfOk result (λ header. header ≡ record { size = least_header; text = [] }) }
     {
@@ -141,8 +141,8 @@ impl Header {
         })
     }
 
-    /// The size in bytes of the header that `first` begins with: the value of HDR_SIZE, looked up in the first 4096
-    /// bytes, or 4096 where it is missing. `first` may have fewer bytes than that.
+    /// The size in bytes of the header that `first` begins with: the value of HDR_SIZE in its first 4096 bytes, or 4096
+    /// if there is no HDR_SIZE. `first` may be shorter than the header.
     pub fn size_of(first: &[u8]) -> Result<usize, HeaderFault>
         ensures ok { IfOk result (λ size. header_size first.now ≡ Some size) }
         ensures long { OnOk result (least_header ≤ length first.now) }
@@ -162,7 +162,7 @@ impl Header {
         }
     }
 
-    /// The header that stands at the beginning of `bytes`; those past its size are ignored.
+    /// Reads the header that `bytes` begin with. Bytes past its size are ignored.
     pub fn read(alloc: Global, bytes: &[u8]) -> Result<Header, HeaderFault>
         ensures ok { IfOk result (λ header. header_of bytes.now ≡ Ok header) }
         ensures front { IfOk result (λ header. (file : List ℕ)
@@ -175,8 +175,8 @@ impl Header {
         Ok(header)
     }
 
-    /// Reads a header in place of this one, which stays as it was where the bytes are refused. It never answers
-    /// `Memory`.
+    /// Reads a header in place of this one. If the bytes are refused, this header stays as it was. It takes no memory,
+    /// and never answers `Memory`.
     pub fn read_again(&mut self, bytes: &[u8]) -> Result<(), HeaderFault>
         ensures ok { OnOk result (header_of bytes.now ≡ Ok self.new) }
         ensures fault { IfErr result (λ fault.
@@ -198,7 +198,7 @@ impl Header {
         Ok(())
     }
 
-    /// Makes this header equal to another.
+    /// Makes this header equal to `other`.
     pub fn copy_from(&mut self, other: &Header)
         ensures { self.new ≡ other.now }
     {
@@ -207,7 +207,7 @@ impl Header {
         self.size = other.size;
     }
 
-    /// The value of a keyword: that of the first field with it.
+    /// The value of a keyword: that of the first field with the keyword.
     pub fn get(&self, key: &str) -> Option<&str>
         ensures { option_copied result ≡ value_of key.now (fields_of self.now.text) }
     {
@@ -219,10 +219,12 @@ impl Header {
         ascii_text(&text[place.start..place.end])
     }
 
-    /// Gives a keyword another value. Where its first field has a value that is at least as long, the other
-    /// takes its place; else each field with the keyword becomes blank, and a line is appended. No byte
-    /// before the end of the text changes its place. Both are words of graphic ASCII without `#`, and the keyword
-    /// isn't HDR_SIZE. After a fault the header is as it was.
+    /// Gives a keyword a new value. If the value of its first field is at least as long, the new one overwrites it.
+    /// Otherwise each field with the keyword becomes blank, and a line with the new value is appended. No other byte of
+    /// the text moves.
+    ///
+    /// `key` and `value` are words of graphic ASCII without `#`, and `key` isn't HDR_SIZE. After a fault the header is
+    /// as it was.
     pub fn set(&mut self, key: &str, value: &str) -> Result<(), SetFault>
         requires key { IsWord key.now }
         requires value { IsWord value.now }

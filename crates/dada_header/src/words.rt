@@ -1,4 +1,4 @@
-// The words of a line, by their places.
+// Finding the words of a line.
 ghost use Rattle.std.specs.Prelude.{◌≡◌, ◌==◌, ◌≤◌, not, IfSome, IfNone, [], drop, length, position};
 ghost use Rattle.dada_model.specs.Fields.{is_white, without_comment, words_of, field_of_line};
 ghost use Rattle.dada_model.specs.Change.{word_start, word_end};
@@ -6,21 +6,21 @@ ghost use Rattle.dada_model.specs.Change.{word_start, word_end};
 // A law: it does nothing when it runs, and the proofs use what it ensures.
 use dada_model::first_word_of_line;
 
-/// Where a word stands: the bytes from `start` to before `end`.
+/// The place of a word: from byte `start` to before byte `end`.
 #[derive(Clone, Copy, Drop)]
 pub(crate) struct Place {
     pub(crate) start: usize,
     pub(crate) end: usize,
 }
 
-/// Where the two words of a field stand in its line.
+/// The places of the two words of a field in its line.
 #[derive(Clone, Copy, Drop)]
 pub(crate) struct FieldPlaces {
     pub(crate) keyword: Place,
     pub(crate) value: Place,
 }
 
-// Space, tab, carriage return, vertical tab and form feed.
+// Whether a byte is a space, tab, carriage return, vertical tab or form feed.
 #[tactic(auto, unfolding(dada_model::specs::Fields::is_white))]
 fn is_white(byte: u8) -> bool
     ensures { result ≡ is_white byte }
@@ -35,21 +35,21 @@ fn first_white(line: &[u8]) -> Option<usize>
     line.iter().position(|byte| is_white(*byte))
 }
 
-// The place of the first byte that is no white space.
+// The place of the first byte that isn't white space.
 fn first_graphic(line: &[u8]) -> Option<usize>
     ensures { result ≡ position (λ byte. not (is_white byte)) line.now }
 {
     line.iter().position(|byte| !is_white(*byte))
 }
 
-// The place of the first byte that begins a comment.
+// The place of the `#` that begins a comment.
 fn comment_start(line: &[u8]) -> Option<usize>
     ensures { result ≡ position (λ byte. byte == 35) line.now }
 {
     line.iter().position(|byte| *byte == b'#')
 }
 
-/// What stands before a line's comment.
+/// The part of a line before its comment.
 #[tactic(auto, unfolding(dada_model::specs::Fields::without_comment))]
 pub(crate) fn without_comment(line: &[u8]) -> &[u8]
     ensures front { result.now ≡ without_comment line.now }
@@ -61,7 +61,7 @@ pub(crate) fn without_comment(line: &[u8]) -> &[u8]
     }
 }
 
-// Where a word begins after the white space from a place in a line on.
+// The place of the first byte from `from` on that isn't white space, or the end of the line.
 fn word_start(line: &[u8], from: usize) -> usize
     requires { from ≤ length line.now }
     ensures start { result ≡ word_start from line.now }
@@ -73,7 +73,7 @@ fn word_start(line: &[u8], from: usize) -> usize
     }
 }
 
-// Where a word ends that begins at a place in a line.
+// The place after the word that begins at `start`.
 fn word_end(line: &[u8], start: usize) -> usize
     requires { start ≤ length line.now }
     ensures end { result ≡ word_end start line.now }
@@ -88,7 +88,7 @@ fn word_end(line: &[u8], start: usize) -> usize
 impl Place {
     ghost use Rattle.dada_header.specs.Places.{IsNextWord};
 
-    // The next word from a place in a line on.
+    // The first word of a line that begins at or after `from`.
     fn next_word(line: &[u8], from: usize) -> Option<Place>
         requires { from ≤ length line.now }
         ensures some { IfSome result (IsNextWord line.now from) }

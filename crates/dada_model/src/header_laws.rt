@@ -8,22 +8,23 @@ pub fn first_word_of_line()
     ensures { FirstWordOfLine }
 {}
 
-/// The fields of a text, and its changes, go line by line.
+/// The fields of a text are found line by line, and a change of a text is made line by line.
 pub fn fields_by_lines()
     ensures { FieldsByLines }
 {}
 
-/// A file that begins with the same bytes has the same header.
+/// A file that begins with the bytes of a header has that header.
 pub fn headers_by_front()
     ensures { HeadersByFront }
 {}
 
-/// A header that is read back has 4096 to 65536 bytes, and a text in ASCII without NUL that is no longer.
+/// A header that is read back has a size of 4096 to 65536 bytes, and its text is ASCII without NUL and no longer than
+/// the size.
 pub fn headers_are_text()
     ensures { HeadersAreText }
 {}
 
-/// A header of the least size with an empty text is read back from its bytes.
+/// A header of the smallest size with an empty text is read back from its bytes.
 pub fn blank_is_read_back()
     ensures { BlankIsReadBack }
 {}

@@ -2,13 +2,13 @@
 // needs a law calls its function.
 ghost use Rattle.dada_model.specs.Laws.{NumbersAreSpelled, AcceptedByRows, AcceptedIsInRange, BandsInRow, EdgesFall, EdgesAreQuotients, DispersionFits};
 
-/// A text has a value exactly where it is a sign, digits, and optionally a point and digits.
+/// A text has a value exactly if it is a sign, digits, and optionally a point and digits.
 pub fn numbers_are_spelled()
     ensures { NumbersAreSpelled }
 {}
 
-/// A header is accepted exactly where the number of each key lies in its row and each channel has
-/// 1 kHz or more.
+/// A header is accepted exactly if the number of each key is in the range of its row and each channel is at least 1 kHz
+/// wide.
 pub fn accepted_by_rows()
     ensures { AcceptedByRows }
 {}
@@ -18,7 +18,7 @@ pub fn accepted_is_in_range()
     ensures { AcceptedIsInRange }
 {}
 
-/// BW lies in its row exactly where it isn't 0 and the band lies within 1 kHz and 2^24 kHz.
+/// BW is in the range of its row exactly if it isn't 0 and the band lies between 1 kHz and 2^24 kHz.
 pub fn bands_in_row()
     ensures { BandsInRow }
 {}
@@ -33,7 +33,7 @@ pub fn edges_are_quotients()
     ensures { EdgesAreQuotients }
 {}
 
-/// The numbers of a dispersion measure fit 122 bits.
+/// All numbers in the calculation of a dispersion measure are below 2^122.
 pub fn dispersion_fits()
     ensures { DispersionFits }
 {}

@@ -1,4 +1,5 @@
 //! What a header in the DADA form says: number texts, header fields, and the observation of a header.
+//!
 //! The definitions are in `specs/`: `Number`, `Fields`, `Change`, `Observation`, `Bounds`; laws about them are in
 //! `Laws`, `FieldLaws` and `ChangeLaws`.
 #![tactic(auto)]

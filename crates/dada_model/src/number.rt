@@ -3,14 +3,14 @@ ghost use Rattle.std.specs.Prelude.{◌≡◌, ℕ, ◌<◌, ◌≤◌, ◌*◌,
 ghost use Rattle.std.specs.Str.Parse.{digits_value};
 ghost use Rattle.dada_model.specs.Number.{IsWholeNumber, number_value};
 
-// Whether a text is decimal digits alone, one at least and `most_digits` at most.
+// Whether a text is 1 to `most_digits` decimal digits and nothing else.
 fn is_whole_number(text: &str, most_digits: usize) -> bool
     ensures { IsTrue result ↔ IsWholeNumber most_digits text.now }
 {
     !text.is_empty() && text.len() <= most_digits && text.bytes().all(|byte| byte.is_ascii_digit())
 }
 
-/// The number that a text of 1 to `most_digits` decimal digits writes, or `None` where the text is not such digits.
+/// The number that a text of 1 to `most_digits` decimal digits writes, or `None` if the text is anything else.
 pub fn whole_number(text: &str, most_digits: usize) -> Option<u64>
     requires { most_digits ≤ 19 }
     ensures digits { SomeIff result (IsWholeNumber most_digits text.now)

@@ -1,4 +1,4 @@
-//! The changes of a transfer's header for each of its files (PSRDADA manual: OBS_OFFSET, FILE_NUMBER, FILE_SIZE).
+//! How the header of a transfer is changed for each of its files (PSRDADA manual: OBS_OFFSET, FILE_NUMBER, FILE_SIZE).
 ghost use Rattle.std.specs.Prelude.{◌≡◌, ◌≢◌, ◌+◌, ◌*◌, ◌^◌, ◌<◌, ◌≤◌, length, None, Option, IfErr, OnOk, IsOk, codes};
 ghost use Rattle.dada_model.specs.Change.{IsWord, changed};
 ghost use Rattle.dada_header.specs.Changes.{IsSet};
@@ -12,7 +12,7 @@ use arrayvec::ArrayString;
 use dada_header::{Header, SetFault};
 use itoa::Buffer;
 
-/// A number in so many digits, with zeros in front.
+/// A number with zeros in front, so that it has `digits` digits.
 pub(crate) fn padded_number(number: u64, digits: usize) -> ArrayString<16>
     requires some { (1 ≤ digits) × (digits ≤ 16) }
     requires fits { number < 10 ^ digits }
@@ -31,7 +31,7 @@ pub(crate) fn padded_number(number: u64, digits: usize) -> ArrayString<16>
     padded
 }
 
-// Gives a keyword a number in so many digits.
+// Gives a keyword a number of `digits` digits.
 fn set_number(header: &mut Header, key: &str, number: u64, digits: usize) -> Result<(), RecordFault>
     requires key { IsWord key.now }
     requires other_than_size { key.now ≢ codes "HDR_SIZE" }
@@ -48,7 +48,7 @@ fn set_number(header: &mut Header, key: &str, number: u64, digits: usize) -> Res
     }
 }
 
-/// Makes the header of a transfer that of one of its files.
+/// Changes the header of a transfer to that of file `number`.
 pub(crate) fn change(
     header: &mut Header,
     offset: u64,
@@ -82,10 +82,10 @@ pub(crate) fn change(
     }
 }
 
-// The form of a time in UTC, with a 0 for each digit.
+// The form of a time in UTC, with a 0 in place of each digit.
 const FORM: &[u8] = b"0000-00-00-00:00:00";
 
-// Whether a byte may stand where the form has this character.
+// Whether a byte may be at a place where the form has this character.
 fn stands(form: u8, byte: u8) -> bool
     ensures { result ≡ stands_for form byte }
 {
@@ -111,7 +111,7 @@ fn has_time_form(text: &[u8]) -> bool
     true
 }
 
-// Whether a header says when its transfer began, in that form, or why not.
+// Checks that a header has a UTC_START, and that it has the form of a time.
 fn judge_time(header: &Header) -> Result<(), RecordFault>
     ensures ok { OnOk result (time_refusal (start_time header.now) ≡ None) }
     ensures fault { IfErr result (Explains (time_refusal (start_time header.now))) }
@@ -128,9 +128,11 @@ fn judge_time(header: &Header) -> Result<(), RecordFault>
     }
 }
 
-/// Whether a transfer of at most `max_bytes` data bytes can be recorded in files of `file_size` data bytes, its first
-/// byte at the given OBS_OFFSET. The causes are judged in their order; at `Ok` the header is that of file 0, and after
-/// a refusal it may have the changes that come before it.
+/// Checks that a transfer can be recorded. It has at most `max_bytes` data bytes, the first of them at OBS_OFFSET
+/// `offset`; a file has at most `file_size` data bytes. The error is the first cause in the order of `RecordFault`.
+///
+/// At `Ok`, `header` is changed to the header of file 0. After an error, it may have the changes before the one that
+/// failed.
 pub fn fits(
     header: &mut Header,
     offset: u64,

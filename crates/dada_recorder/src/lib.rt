@@ -1,4 +1,4 @@
-//! The recorder: what comes through two rings goes into files, each with a header of its own (PSRDADA manual:
+//! The recorder: writes what comes through two rings into files, each with a header of its own (PSRDADA manual:
 //! dada_dbdisk).
 #![tactic(auto)]
 

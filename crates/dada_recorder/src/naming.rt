@@ -9,7 +9,7 @@ use crate::changes::padded_number;
 use arrayvec::ArrayString;
 use dada_header::Header;
 
-// When the transfer of a header began.
+// The UTC_START of a header.
 fn start_text(header: &Header) -> &str
     requires time { time_refusal (start_time header.now) ≡ None }
     ensures is { start_time header.now ≡ Some result.now }
@@ -21,7 +21,7 @@ fn start_text(header: &Header) -> &str
     }
 }
 
-// A text behind those of a name.
+// Appends a text to a name.
 fn add(name: &mut ArrayString<64>, text: &str)
     requires room { length name.old.bytes + length text.now ≤ 64 }
     ensures bytes { name.new.bytes ≡ name.old.bytes ++ text.now }
@@ -30,7 +30,8 @@ fn add(name: &mut ArrayString<64>, text: &str)
     name.push_str(text);
 }
 
-/// The name of a file of a transfer: when the transfer began, the OBS_OFFSET of its first data byte and its number.
+/// The name of file `number` of a transfer: the UTC_START of the transfer, the OBS_OFFSET of the file's first data
+/// byte, and the file's number.
 pub(crate) fn file_name(
     header: &Header,
     offset: u64,

@@ -14,7 +14,7 @@ use std::alloc::Global;
 
 /// Records the blocks of two rings into borrowed files.
 ///
-/// It is opened, and then takes turns until it ended. No call after `open` takes memory.
+/// It is opened, and then takes turns until the recording has ended. No call after `open` takes memory.
 #[derive(Drop)]
 pub struct Recorder<'a, F> {
     files: &'a mut F,
@@ -24,7 +24,7 @@ pub struct Recorder<'a, F> {
 impl<'a, F: Files> Recorder<'a, F> {
     ghost use Rattle.dada_recorder.specs.Recorder.{block_size, has_end, has_header, has_open_file, RecorderStands, IsSpaceFor, IsFreshFor, IsSameRecorder, TurnMakes};
 
-    /// Takes all space, as `RecorderSpace::reserve` does.
+    /// Takes all space, as `RecorderSpace::reserve` does, and borrows the files.
     pub fn open(
         alloc: Global,
         files: &'a mut F,
@@ -45,7 +45,7 @@ impl<'a, F: Files> Recorder<'a, F> {
         Ok(Recorder::over(files, space))
     }
 
-    /// Borrows files for a recorder whose space was taken.
+    /// Borrows the files for a recorder whose space was taken before.
     pub fn over(files: &'a mut F, space: RecorderSpace<'a>) -> Recorder<'a, F>
         requires closed { ¬ F.is_open files.old }
         ensures files { result.files.now ≡ files.old }
@@ -57,8 +57,8 @@ impl<'a, F: Files> Recorder<'a, F> {
         Recorder { files, track }
     }
 
-    /// Reads one block: a header block where a transfer is next, and else a data block. It goes into files, unless it
-    /// is refused or passes the limit, and is cleared. Where there was no block, the next turn tries the same read.
+    /// Reads one block: a header block if a transfer is next, otherwise a data block. It is written to files, unless it
+    /// is refused or exceeds the limit, and is cleared. If there is no block, the next turn tries the same read.
     pub fn turn(&mut self, hdu: &Hdu, pass: &mut HduReader) -> RecordTurn
         requires ring { ReadsBoth hdu.now pass.old }
         requires size { (data_shape hdu.now).size ≡ block_size self.old }
@@ -77,7 +77,7 @@ impl<'a, F: Files> Recorder<'a, F> {
         self.track.turn(self.files, hdu, pass)
     }
 
-    /// Gives the files back.
+    /// Returns the files.
     pub fn close(self) -> &'a mut F
         ensures files { result.now ≡ self.entry.files.now }
         ensures same_reference { result.ghost_name ≡ self.entry.files.ghost_name }

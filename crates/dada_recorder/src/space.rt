@@ -6,7 +6,7 @@ use crate::track::Track;
 use psr_base::Memory;
 use std::alloc::Global;
 
-/// All space that a recorder needs, before it borrows files.
+/// All space that a recorder needs. It is taken before the recorder borrows files.
 #[derive(Drop)]
 pub struct RecorderSpace<'a> {
     pub(crate) track: Track<'a>,
@@ -15,8 +15,9 @@ pub struct RecorderSpace<'a> {
 impl<'a> RecorderSpace<'a> {
     ghost use Rattle.dada_recorder.specs.Recorder.{IsSpaceFor};
 
-    /// Takes all space. `first_offsets` has the OBS_OFFSET of each transfer's first data byte, `block` is the size of
-    /// the data ring's blocks, a file has at most `file_size` data bytes, and all transfers together `max_bytes`.
+    /// Takes all space. `first_offsets` has the OBS_OFFSET of the first data byte of each transfer, and `block` is the
+    /// size of a data block. A file has at most `file_size` data bytes, and all transfers together at most `max_bytes`.
+    /// All sizes are in bytes.
     pub fn reserve(
         alloc: Global,
         first_offsets: &'a [u64],

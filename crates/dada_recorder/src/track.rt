@@ -1,4 +1,4 @@
-//! The blocks of two rings, read one after another into a space of their own.
+//! Reading the blocks of two rings, one after another, into a space of its own.
 ghost use Rattle.std.specs.Prelude.{◌≡◌, ◌≤◌, true, false, [], length, None, Some, IfOk};
 ghost use Rattle.dada_hdu.specs.Passes.{data_shape};
 ghost use Rattle.dada_recorder.specs.Blocks.{PlanInRange, record_plan};
@@ -10,19 +10,19 @@ use dada_hdu::{HEADER_SPACE, Hdu, HduReader};
 use psr_base::{Files, Memory};
 use std::alloc::Global;
 
-/// What is recorded, and the space into which each block is read.
+/// What is recorded, and the space that each block is read into.
 #[derive(Drop)]
 pub(crate) struct Track<'a> {
     pub(crate) transfers: Transfers<'a>,
     space: Vec<u8>,
-    /// The size of the data ring's blocks.
+    /// The size of a data block, in bytes.
     pub(crate) block: u32,
     pub(crate) end: Option<RecordEnd>,
     ghost room: { block ≤ length space.items },
     ghost header_room: { 65537 ≤ length space.items },
 }
 
-// So many zeros.
+// `size` zeros.
 fn zeros(alloc: Global, size: usize) -> Result<Vec<u8>, Memory>
     ensures { IfOk result (λ space. length space.items ≡ size) }
 {
@@ -33,7 +33,7 @@ impl<'a> Track<'a> {
     ghost use Rattle.dada_recorder.specs.Transfers.{plan_in, IsRunning};
     ghost use Rattle.dada_recorder.specs.Tracks.{GoesOnIn, HasTurned};
 
-    /// Nothing was read. All space is taken here.
+    /// Takes all space. Nothing is read yet.
     pub(crate) fn open(
         alloc: Global,
         offsets: &'a [u64],
@@ -59,7 +59,7 @@ impl<'a> Track<'a> {
         })
     }
 
-    // The block that was read is cleared: more are to come, or this is the end.
+    // The answer of a turn that cleared a block: more are to come, or this is the end.
     fn settle(&mut self, end: Option<RecordEnd>) -> RecordTurn
         ensures transfers { self.new.transfers ≡ self.old.transfers }
         ensures block { self.new.block ≡ self.old.block }
@@ -73,7 +73,7 @@ impl<'a> Track<'a> {
         }
     }
 
-    // Reads a header block.
+    // Reads a header block and records it.
     fn header_turn<F: Files>(
         &mut self,
         files: &mut F,
@@ -97,7 +97,7 @@ impl<'a> Track<'a> {
         }
     }
 
-    // Reads a data block.
+    // Reads a data block and records it.
     fn data_turn<F: Files>(&mut self, files: &mut F, hdu: &Hdu, pass: &mut HduReader) -> RecordTurn
         requires goes_on { GoesOnIn F.is_open hdu.now self.old files.old pass.old }
         requires size { (data_shape hdu.now).size ≡ self.old.block }
@@ -117,7 +117,7 @@ impl<'a> Track<'a> {
         }
     }
 
-    /// Reads one block and records it.
+    /// Reads the next block, of a header or of data, and records it.
     pub(crate) fn turn<F: Files>(
         &mut self,
         files: &mut F,

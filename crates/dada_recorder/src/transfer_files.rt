@@ -1,4 +1,4 @@
-//! The files of one transfer: its data are cut into pieces, and each piece stands behind a header of its own.
+//! The files of one transfer: each has a header of its own, and a piece of the data.
 ghost use Rattle.std.specs.Prelude.{◌≡◌, ℕ, Ok, IfErr, ◌+◌, ◌^◌, ◌<◌, ◌≤◌, true, false, List, [], ◌∷◌, ◌++◌, length, None, IfOk, OnOk};
 ghost use Rattle.psr_base.specs.Made.{NamedBytes};
 ghost use Rattle.dada_model.specs.Fields.{header_of};
@@ -16,22 +16,27 @@ use std::alloc::Global;
 // A law: it does nothing when it runs, and the proofs use what it ensures.
 use stream_model::each_header_has_room;
 
-/// Where the data of a transfer have come to: the file that was begun last, how many data bytes it has, and whether it
-/// is open.
+/// How far the data of a transfer were written.
 #[derive(Clone, Copy)]
 pub(crate) struct FilePlace {
+    /// The number of the file that was begun last.
     pub(crate) number: u64,
+    /// The number of data bytes in that file.
     pub(crate) used: u64,
+    /// Whether that file is open.
     pub(crate) is_open: bool,
 }
 
 /// The files of a transfer.
 #[derive(Drop)]
 pub(crate) struct TransferFiles {
-    /// The header of the transfer, and that of the file that was begun last.
+    /// The header of the transfer.
     pub(crate) header: Header,
+    /// The header of the file that was begun last.
     pub(crate) changed: Header,
+    /// The OBS_OFFSET of the transfer's first data byte.
     pub(crate) offset: u64,
+    /// The largest number of data bytes of a file.
     pub(crate) file_size: u64,
     pub(crate) place: FilePlace,
 }
@@ -39,7 +44,7 @@ pub(crate) struct TransferFiles {
 impl TransferFiles {
     ghost use Rattle.dada_recorder.specs.TransferFiles.{recording_in, CanRecord, header_file, first_files, longer_file, after_put, data_bytes, IsPlaced, IsWithinLimit, next_place, CameOf, TakesFront};
 
-    /// No transfer has begun. The space for its headers is taken here.
+    /// Takes the space for the headers. No transfer has begun yet.
     pub(crate) fn open(alloc: Global, file_size: u64) -> Result<TransferFiles, Memory>
         ensures file_size { IfOk result (λ t. t.file_size ≡ file_size) }
         ensures closed { IfOk result (λ t. t.place.is_open ≡ false) }
@@ -57,7 +62,8 @@ impl TransferFiles {
         })
     }
 
-    /// Takes another header, for a transfer whose first data byte has the given OBS_OFFSET, unless it is refused.
+    /// Begins a transfer with the header in `bytes`, unless it is refused. `offset` is the OBS_OFFSET of its first data
+    /// byte.
     pub(crate) fn begin(
         &mut self,
         offset: u64,
@@ -83,7 +89,7 @@ impl TransferFiles {
         fits(&mut self.changed, offset, self.file_size, max_bytes)
     }
 
-    // The header of a file.
+    // Makes the header of file `number`.
     fn change_header(&mut self, number: u64)
         requires numbers { HasNumbers (recording_in self.old) number }
         requires room { HeaderHasRoom (recording_in self.old) number }
@@ -98,7 +104,7 @@ impl TransferFiles {
         }
     }
 
-    // Creates a file and appends its header.
+    // Creates file `number` and appends its header.
     fn start_file<F: Files>(&mut self, files: &mut F, number: u64) -> Result<(), Failed>
         requires closed { ¬ F.is_open files.old }
         requires numbers { HasNumbers (recording_in self.old) number }
@@ -127,7 +133,7 @@ impl TransferFiles {
         append_all(files, self.changed.bytes())
     }
 
-    /// Creates the first file of the transfer, and appends its header.
+    /// Creates the first file of the transfer and appends its header.
     pub(crate) fn start<F: Files>(&mut self, files: &mut F, max_bytes: u64) -> Result<(), Failed>
         requires closed { ¬ F.is_open files.old }
         requires accepted { CanRecord (recording_in self.old) max_bytes }
@@ -165,7 +171,7 @@ impl TransferFiles {
         }
     }
 
-    // Appends bytes for which the file has room, and finishes it where it is full.
+    // Appends bytes that the file has room for, and finishes the file if it is full.
     fn put<F: Files>(&mut self, files: &mut F, bytes: &[u8]) -> Result<(), Failed>
         requires is_open { F.is_open files.old }
         requires open { self.old.place.is_open ≡ true }
@@ -193,7 +199,7 @@ impl TransferFiles {
         }
     }
 
-    // Begins the next file where the last one is full.
+    // Begins the next file, if the last one is full.
     fn make_room<F: Files>(&mut self, files: &mut F) -> Result<(), Failed>
         requires is_open { IsOpenAs self.old.place.is_open (F.is_open files.old) }
         requires placed { IsPlaced self.old.place self.old.file_size }
@@ -220,7 +226,8 @@ impl TransferFiles {
         }
     }
 
-    // Appends a front of some bytes: as many as the file has room for that is open, or the next one.
+    // Appends the front of `bytes` to the open file, or to the next one: as many bytes as it has room for. Returns
+    // their number.
     fn step<F: Files>(&mut self, files: &mut F, bytes: &[u8]) -> Result<usize, Failed>
         requires is_open { IsOpenAs self.old.place.is_open (F.is_open files.old) }
         requires placed { IsPlaced self.old.place self.old.file_size }
@@ -250,7 +257,7 @@ impl TransferFiles {
         }
     }
 
-    /// Appends data bytes, over as many files as they take.
+    /// Appends data bytes, to as many files as they need.
     pub(crate) fn append<F: Files>(&mut self, files: &mut F, bytes: &[u8]) -> Result<(), Failed>
         requires is_open { IsOpenAs self.old.place.is_open (F.is_open files.old) }
         requires placed { IsPlaced self.old.place self.old.file_size }

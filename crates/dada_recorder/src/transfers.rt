@@ -15,26 +15,29 @@ use std::alloc::Global;
 // Laws: they do nothing when they run, and the proofs use what they ensure.
 use stream_model::{bytes_are_joined, ends_are_counted, entries_are_of_transfers};
 
-/// The transfers of a stream: which one is recorded, and what came of those before it.
+/// The transfers of a stream: the one that is recorded now, and how many ended before it.
 #[derive(Drop)]
 pub(crate) struct Transfers<'a> {
     /// The OBS_OFFSET of each transfer's first data byte.
     pub(crate) offsets: &'a [u64],
+    /// The largest number of data bytes of all transfers together.
     pub(crate) max_bytes: u64,
-    /// So many transfers ended, with so many files.
+    /// The number of transfers that ended.
     pub(crate) ended: u32,
+    /// The number of files of these transfers.
     pub(crate) finished: u32,
-    /// The header of the transfer after those was read, and these are its files.
+    /// Whether the header of the next transfer was read.
     pub(crate) has_header: bool,
+    /// The files of that transfer.
     pub(crate) files: TransferFiles,
-    /// The data bytes of all blocks so far.
+    /// The number of data bytes of all blocks so far.
     pub(crate) total: u64,
 }
 
 impl<'a> Transfers<'a> {
     ghost use Rattle.dada_recorder.specs.Transfers.{plan_in, IsRunning, HasAppended, RunsOn, StandsAt, CountsEnd, IsInSameTransfer};
 
-    /// No block came.
+    /// Takes the space for the headers. No block has come yet.
     pub(crate) fn open(
         alloc: Global,
         offsets: &'a [u64],
@@ -59,7 +62,7 @@ impl<'a> Transfers<'a> {
         })
     }
 
-    /// Whether a transfer's header was read, and its data are next.
+    /// Whether the header of a transfer was read, so that its data are next.
     pub(crate) fn has_header(&self) -> bool
         ensures { result ≡ self.now.has_header }
     {
@@ -104,7 +107,7 @@ impl<'a> Transfers<'a> {
         }
     }
 
-    // The transfer ended: its last file is finished, and its files are counted.
+    // Ends the transfer: finishes its last file, and counts its files.
     fn end_transfer<F: Files>(&mut self, files: &mut F) -> Result<(), Failed>
         requires is_open { IsOpenAs self.old.files.place.is_open (F.is_open files.old) }
         requires number { self.old.files.place.number < 10 ^ 6 }
@@ -129,7 +132,7 @@ impl<'a> Transfers<'a> {
         }
     }
 
-    // After the block that ends a transfer.
+    // After a block that ends a transfer: ends the transfer, and the recording if it was the last one.
     fn last_block<F: Files>(&mut self, files: &mut F) -> Option<RecordEnd>
         requires is_open { IsOpenAs self.old.files.place.is_open (F.is_open files.old) }
         requires number { self.old.files.place.number < 10 ^ 6 }
@@ -167,7 +170,7 @@ impl<'a> Transfers<'a> {
         }
     }
 
-    // After the block that gives a stream up.
+    // After a block that gives the stream up: finishes the last file, and ends the recording.
     fn cut_block<F: Files>(&mut self, files: &mut F) -> Option<RecordEnd>
         requires is_open { IsOpenAs self.old.files.place.is_open (F.is_open files.old) }
         requires number { self.old.files.place.number < 10 ^ 6 }
@@ -196,7 +199,7 @@ impl<'a> Transfers<'a> {
         }
     }
 
-    // After the bytes of a block came, by its mark.
+    // After the bytes of a data block were appended: what its mark asks for.
     fn after_data<F: Files>(&mut self, files: &mut F, mark: Mark) -> Option<RecordEnd>
         requires is_open { IsOpenAs self.old.files.place.is_open (F.is_open files.old) }
         requires number { self.old.files.place.number < 10 ^ 6 }

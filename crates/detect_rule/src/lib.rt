@@ -1,4 +1,4 @@
-//! The detection rule: whether a sum of samples stands out of the noise, and the least sum that does.
+//! The detection rule: whether a sum of samples stands out of the noise, and the smallest sum that does.
 #![tactic(auto)]
 
 ghost use Rattle.std.specs.Prelude.{◌*◌, ◌^◌, ◌<◌, ◌≤◌, ◌↔◌, IsTrue};
@@ -7,7 +7,7 @@ ghost use Rattle.std.specs.Prelude.{◌*◌, ◌^◌, ◌<◌, ◌≤◌, ◌↔
 use search_model::detection_rises;
 use std::marker::Model;
 
-// No sum of a search reaches this.
+// Every sum of a search is below this.
 const SUMS_END: u64 = 1 << 32;
 
 /// What is known of the noise, and how far a sum has to stand out of it.
@@ -17,7 +17,7 @@ pub struct Rule {
     pub mean: u32,
     /// The standard deviation of a sample, in thousandths: at most 200 000 000.
     pub sd: u32,
-    /// The least signal-to-noise ratio, in hundredths: at most 100 000.
+    /// The threshold: the smallest signal-to-noise ratio that is detected, in hundredths, at most 100 000.
     pub snr: u32,
 }
 
@@ -36,7 +36,7 @@ impl Model for Rule {
 impl Rule {
     ghost use Rattle.detect_rule.specs.Noise.{StandsOut, StandOutFrom};
 
-    /// Whether the sum of so many cells is above their mean, and at or above the threshold.
+    /// Whether a sum of `cells` samples is above their mean, and at or above the threshold.
     pub fn detected(&self, sum: u64, cells: u64) -> bool
         requires sum_fits { sum < 2 ^ 32 }
         requires cells_fit { cells ≤ 2 ^ 26 }
@@ -53,8 +53,8 @@ impl Rule {
         snr * snr * (sd * sd) * u128::from(cells) <= 10000 * (excess * excess)
     }
 
-    /// The least sum of so many cells that is detected, and each greater one below 2^32 is too; `None` where no sum
-    /// below 2^32 is detected.
+    /// The smallest sum of `cells` samples that is detected. Each greater one below 2^32 is detected too. `None` if no
+    /// sum below 2^32 is detected.
     pub fn least(&self, cells: u64) -> Option<u32>
         requires { cells ≤ 2 ^ 26 }
         ensures { StandOutFrom self.now cells result }

@@ -15,7 +15,7 @@ use Rattle.disk_feeder.specs.Plan.{Plan}
 use Rattle.disk_feeder.specs.Sources.{plan_of}
 use Rattle.disk_feeder.specs.Filling.{IsSince}
 use Rattle.disk_feeder.specs.Streams.{StreamRead, StreamReadsFirsts}
-use Rattle.disk_feeder.specs.Beginning.{IsFreshStream, IsBegunStream, LastLeft, FirstsRead, BreaksFirst, RefusesSome, IsAcceptedIn}
+use Rattle.disk_feeder.specs.Beginning.{IsFreshStream, IsBegunStream, FirstsRead, BreaksFirst, RefusesSome, IsAcceptedIn}
 use Rattle.disk_feeder.specs.Feeding.{FitsRings, IsFaultless, FaultIsUntold, FaultIsUnopened, IsFeeding, IsBeginning}
 
 -- the stream of a feeder
@@ -85,10 +85,6 @@ HasOpenFile f = f.stream.source.place.is_open ≡ true
 -- the first headers were read; where the files are told, they are the headers of these files
 abbrev pub IsBegun : {I : Type 0} → Told → Feeder I → Type 0
 IsBegun told f = IsBegunStream told f.stream
-
--- what is left to read are the data of the first file of the last transfer
-abbrev pub FirstsLeft : {I : Type 0} → Told → Feeder I → Told → Type 0
-FirstsLeft told f told' = LastLeft told f.stream.source (length (plan_at f).starts) told'
 
 -- the first headers of all transfers were read, in order, and nothing else was
 abbrev pub FirstHeadersRead : {I : Type 0} → Told → Feeder I → Told → Type 0

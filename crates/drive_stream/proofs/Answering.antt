@@ -38,6 +38,7 @@ use Rattle.drive_stream.specs.Stops.{IsStopOf, as_run}
 use Rattle.drive_stream.proofs.Ending.{whole_end}
 use Rattle.drive_stream.proofs.Ends.{says_failed}
 use Rattle.drive_stream.proofs.Fronts.{one_start}
+use Rattle.drive_stream.proofs.Openings.{of_first_head}
 use Rattle.drive_stream.proofs.Told.{some_told}
 
 -- ---- the ends of data
@@ -190,7 +191,8 @@ module _ {F : Type 0} (takes : Observation → HeaderText → Type 0) (refuses :
       AreWalked (stream_for s files) → (what : StreamStop F) → stop ≡ Some what → SaysBefore refuses s told what →
       ((refusal : F) × (stop ≡ Some (stops.Refused refusal))
       × OfHead (λ o header. refuses o header refusal) (stream_for s files)) ⊎ IsFromOutside stop
-  early_walked files are walked (stops.Refused refusal) is says = inl (refusal, is, (says files are).1)
+  early_walked files are walked (stops.Refused refusal) is says =
+      inl (refusal, is, of_first_head s told (λ o header. refuses o header refusal) says files are)
   early_walked files are walked (Run (halts.Header file cause)) is says =
       absurd (accepted.header (stream_for s files) file cause walked
       (first_refused s one told files are file cause says.1))
@@ -231,7 +233,7 @@ module _ {F : Type 0} (takes : Observation → HeaderText → Type 0) (refuses :
       by : (what : StreamStop F) → stop ≡ Some what → SaysBefore refuses s told what →
           ((k : ℕ) × (other : HeaderCause) × (stop ≡ Some (Run (halts.Header k other)))) ⊎ IsFromOutside stop
       by (stops.Refused refusal) is says =
-          absurd (accepted.header (stream_for s files) file cause (says files are).0 refused)
+          absurd (accepted.header (stream_for s files) file cause (says.first.1 files are).walked refused)
       by (Run (halts.Header k other)) is says = inl (k, other, is)
       by (Run halts.Memory) is says = inr (memory_outside stop is)
       by (Run halts.ReadFault) is says = inr (fault_outside stop is)
@@ -261,8 +263,8 @@ module _ {F : Type 0} (takes : Observation → HeaderText → Type 0) (refuses :
       OfHead takes (stream_for s files) → walk_stop (stream_for s files) ≡ walk.Whole →
       (stop ≡ None) ⊎ (RefusesAtEnd leaves (stream_for s files) before after stop ⊎ IsFromOutside stop)
   goes_through join joins (inl e) files are walked taken whole =
-      inr (inr (early_taken files (some_told (IsFirstFile s.starts (length s.names)) told s.names files are) walked taken
-      e))
+      inr (inr (early_taken files (some_told (IsFirstFile s.starts (length s.names)) told s.names files are) walked
+      taken e))
   goes_through join joins (inr (inr e)) files are walked taken whole = inr (inr (sink_outside stop e.is))
   goes_through join joins (inr (inl e)) files are walked taken whole =
       by (whole_or_fault (stream_for s files) e.size e.blocks e.feed
@@ -275,9 +277,10 @@ module _ {F : Type 0} (takes : Observation → HeaderText → Type 0) (refuses :
       by_end bytes is (inr refused) =
           let end = whole_end join joins takes leaves s one told before after files are stop e bytes is in
           let left = e.left files (some_told (IsFirstFile s.starts (length s.names)) told s.names files are) in
-          let P : List ℕ → Type 0 = λ xs. OfHead (λ o header. leaves o header xs e.ending before after) (stream_for s files) in
+          let w = stream_for s files in
+          let P : List ℕ → Type 0 = λ xs. OfHead (λ o header. leaves o header xs e.ending before after) w in
           let Q : Ending F → Type 0 = λ ending.
-          OfHead (λ o header. leaves o header (transfer_data (stream_for s files) 0) ending before after) (stream_for s files) in
+          OfHead (λ o header. leaves o header (transfer_data w 0) ending before after) w in
           inr (inl (refused.0, refused.1, subst Q refused.2 (subst P end.1 left.2)))
 
       by : ((bytes : ℕ) × (e.feed ≡ Whole bytes)) ⊎ (e.feed ≡ ReadFault) →

@@ -28,19 +28,20 @@ use Rattle.disk_feeder.specs.Handing.{FeederHands}
 use Rattle.disk_feeder.specs.Laws.{FaultsLeave, FeedersBegin}
 use Rattle.disk_feeder.specs.Plan.{Plan, stream_of, AreTold, IsAmong, IsFirstFile, opened_at}
 use Rattle.disk_feeder.specs.Reading.{judged_at}
-use Rattle.run_stop.specs.Runs.{first_observation, stream_for}
+use Rattle.run_stop.specs.Runs.{stream_for}
 use Rattle.run_stop.specs.declared.stop.Stop.TheVariants as halts
 use Rattle.search_opening.specs.Settings.{OfRun, OfRunFirsts}
 use Rattle.drive_stream.specs.declared.stop.StreamStop.{StreamStop}
 use Rattle.drive_stream.specs.declared.stop.StreamStop.TheVariants.{Run}
+use Rattle.drive_stream.specs.declared.stop.StreamStop.TheVariants as stops
 use Rattle.drive_stream.specs.Endings.{Ending, All, Early, Failed, Refused, Midway, AtEnd, AtStop}
 use Rattle.drive_stream.specs.Flows.{KeepsOn}
 use Rattle.drive_stream.specs.Opening.{IsOfOne, IsOpened}
-use Rattle.drive_stream.specs.Outcome.{BreaksData, OfHead, first_header, EndsFed, EndsBroken, EndsStream}
+use Rattle.drive_stream.specs.Outcome.{BreaksData, OfHead, EndsFed, EndsBroken, EndsStream, ReadsRefused}
 use Rattle.drive_stream.specs.Stops.{IsStopOf}
 use Rattle.drive_stream.specs.Writings.{LeavesOf, WritesTo, BreaksWriting}
 use Rattle.drive_stream.proofs.Fronts.{bytes_front, front_follows, same_front, one_start, one_of, walk_front, walk_whole, broken_front}
-use Rattle.drive_stream.proofs.Told.{still_told, some_told, of_plan, all_of_plan, passes_run}
+use Rattle.drive_stream.proofs.Told.{still_told, some_told, of_head, of_plan, all_of_plan, passes_run}
 
 -- ---- stops
 
@@ -106,6 +107,32 @@ no_memory (TooLong limit) All stop is failed = absurd is
 no_memory (TooLong limit) (Refused refusal) stop is failed = absurd is
 no_memory (TooLong limit) Early stop is failed = absurd cc
 no_memory (TooLong limit) (Failed phase) stop is failed = absurd is
+
+-- the program refuses data at their end alone
+refused_at_end : {F : Type 0} (end : FeedEnd) (ending : Ending F) (stop : Option (StreamStop F)) (refusal : F) →
+    IsStopOf end ending stop → stop ≡ Some (stops.Refused refusal) → ending ≡ Refused refusal
+refused_at_end (Whole bytes) All stop refusal is refused = absurd cc
+refused_at_end (Whole bytes) (Refused other) stop refusal is refused = cc
+refused_at_end (Whole bytes) Early stop refusal is refused = absurd is
+refused_at_end (Whole bytes) (Failed phase) stop refusal is refused = absurd is
+refused_at_end ReadFault All stop refusal is refused = absurd is
+refused_at_end ReadFault (Refused other) stop refusal is refused = absurd is
+refused_at_end ReadFault Early stop refusal is refused = absurd cc
+refused_at_end ReadFault (Failed Midway) stop refusal is refused = absurd is
+refused_at_end ReadFault (Failed AtEnd) stop refusal is refused = absurd is
+refused_at_end ReadFault (Failed AtStop) stop refusal is refused = absurd cc
+refused_at_end (BadHeader file cause) All stop refusal is refused = absurd is
+refused_at_end (BadHeader file cause) (Refused other) stop refusal is refused = absurd is
+refused_at_end (BadHeader file cause) Early stop refusal is refused = absurd cc
+refused_at_end (BadHeader file cause) (Failed phase) stop refusal is refused = absurd is
+refused_at_end (Gap file expected found) All stop refusal is refused = absurd is
+refused_at_end (Gap file expected found) (Refused other) stop refusal is refused = absurd is
+refused_at_end (Gap file expected found) Early stop refusal is refused = absurd cc
+refused_at_end (Gap file expected found) (Failed phase) stop refusal is refused = absurd is
+refused_at_end (TooLong limit) All stop refusal is refused = absurd is
+refused_at_end (TooLong limit) (Refused other) stop refusal is refused = absurd is
+refused_at_end (TooLong limit) Early stop refusal is refused = absurd cc
+refused_at_end (TooLong limit) (Failed phase) stop refusal is refused = absurd is
 
 -- ---- the end of a feeder
 
@@ -258,13 +285,6 @@ module _ {I S F : Type 0} (told : I → Told) (is_open is_calm : I → Type 0) (
     pub still : (told j.inputs.now).bytes_under ≡ before.bytes_under
     still = kept.names ∙ same
 
-    of_head : (P : Observation → HeaderText → Type 0) (w : FileStream) → first_observation w 0 ≡ o →
-        first_header w ≡ at.header → P o at.header → OfHead P w
-    of_head P w is_o is_h holds =
-        let Q : Observation → Type 0 = λ p. P p (first_header w) in
-        let R : HeaderText → Type 0 = λ h. P o h in
-        subst Q (sym is_o) (subst R (sym is_h) holds)
-
     left_by : (bytes : List ℕ) (ending : Ending F) (seen after : SinkSeen) →
         LeavesOf (opens o) (leaves o) stream bytes ending seen after → OfRunFirsts before s (λ w. AreWalked w
         × OfHead takes w × OfHead (λ p h. leaves p h bytes ending seen after) w)
@@ -272,9 +292,9 @@ module _ {I S F : Type 0} (told : I → Told) (is_open is_calm : I → Type 0) (
         let w = stream_for s files in
         let is = at.firsts files
         (still_told (IsFirstFile s.starts (length s.names)) before (told f.inputs.now) s.names files same are) in (
-          is.0,
-          of_head takes w is.1 is.2 at.taken,
-          of_head (λ p h. leaves p h bytes ending seen after) w is.1 is.2 (left at.header at.opened),
+          is.walked,
+          of_head o at.header w is takes at.taken,
+          of_head o at.header w is (λ p h. leaves p h bytes ending seen after) (left at.header at.opened),
         )
 
     pub ends_fed : (seen after : SinkSeen) (stop : Option (StreamStop F)) →
@@ -430,15 +450,16 @@ module _ {I S F : Type 0} (told : I → Told) (is_open is_calm : I → Type 0) (
             let Named : List (List ℕ) → Type 0 = λ names.
             IsSome ((told j.inputs.now).bytes_under (slice_index_or names k [])) in
             lacks.untold (subst Named (sym now_plan.files)
-            (subst (λ (under : List ℕ → Option (List ℕ)). IsSome (under (slice_index_or s.names k []))) (sym still) some))
+            (subst (λ (under : List ℕ → Option (List ℕ)). IsSome (under (slice_index_or s.names k []))) (sym still)
+            some))
 
 -- ---- however it was written
 
-module _ {I S F : Type 0} (told : I → Told) (is_open is_calm : I → Type 0) (faults : I → ℕ)
-    (takes : Observation → HeaderText → Type 0) (opens : Observation → HeaderText → S → Type 0)
-    (leaves : Observation → HeaderText → List ℕ → Ending F → SinkSeen → SinkSeen → Type 0) (s : RunSeen)
-    (one : IsOfOne s) (f j : Feeder I) (o : Observation) (stream : S)
-    (at : IsOpened told is_open takes opens s f o stream) (seen after : SinkSeen) (stop : Option (StreamStop F)) where
+module _ {I S F : Type 0} {told : I → Told} {is_open is_calm : I → Type 0} {faults : I → ℕ}
+    {takes : Observation → HeaderText → Type 0} {opens : Observation → HeaderText → S → Type 0}
+    (leaves : Observation → HeaderText → List ℕ → Ending F → SinkSeen → SinkSeen → Type 0) {s : RunSeen}
+    (one : IsOfOne s) {f j : Feeder I} {o : Observation} {stream : S}
+    (at : IsOpened told is_open takes opens s f o stream) {seen after : SinkSeen} {stop : Option (StreamStop F)} where
   pub all_reads : WritesTo told is_calm faults (opens o) (leaves o) f j stream seen after stop
       ⊎ BreaksWriting told is_calm faults (opens o) (leaves o) f j stream seen after stop →
       HasReadFrom told is_calm faults (stop ≡ Some (Run halts.ReadFault)) f.inputs.now j.inputs.now
@@ -494,4 +515,21 @@ module _ {I S F : Type 0} (told : I → Told) (is_open is_calm : I → Type 0) (
     where
       other : (stop : Option (StreamStop F)) → stop ≡ Some (Run halts.SinkFault) →
           stop ≡ Some (Run halts.ReadFault) → ⊥
+      other stop is failed = absurd cc
+
+  pub all_refused : WritesTo told is_calm faults (opens o) (leaves o) f j stream seen after stop
+      ⊎ BreaksWriting told is_calm faults (opens o) (leaves o) f j stream seen after stop →
+      (before : Told) → (told f.inputs.now).bytes_under ≡ before.bytes_under →
+      ReadsRefused leaves s before (told j.inputs.now) seen after stop
+  all_refused (inl w) before same refusal is files are =
+      let bytes = joined_bytes w.blocks in
+      let left = left_by told is_open is_calm faults takes opens leaves s one f j o stream at w.kept before same bytes
+      w.ending seen after w.left files are in
+      let Left : Ending F → Type 0 = λ ending.
+      OfHead (λ p h. leaves p h bytes ending seen after) (stream_for s files) in
+      inr (bytes, subst Left (refused_at_end w.end w.ending stop refusal w.is is) left.2)
+  all_refused (inr w) before same refusal is files are = absurd (other stop w.is is)
+    where
+      other : (stop : Option (StreamStop F)) → stop ≡ Some (Run halts.SinkFault) →
+          stop ≡ Some (stops.Refused refusal) → ⊥
       other stop is failed = absurd cc

@@ -86,12 +86,12 @@ module _ (join : BytesAreJoined) (walked : WalkJoinsData) (files : List (List �
   whole_data = join.whole size (walk_data w) ∙ walked w starts
 
   abandoned_front : (t k : ℕ) → t ≡ 0 →
-      IsPrefix (joined_bytes (abandoned_stream size limit (take t (walk_data w)) (data_between files (slice_index_or (0 ∷ []) t (length files)) k)))
-      (transfer_data w 0)
+      IsPrefix (joined_bytes (abandoned_stream size limit (take t (walk_data w))
+      (data_between files (slice_index_or (0 ∷ []) t (length files)) k))) (transfer_data w 0)
   abandoned_front t k is =
       let P : ℕ → Type 0 = λ t.
-      IsPrefix (joined_bytes (abandoned_stream size limit (take t (walk_data w)) (data_between files (slice_index_or (0 ∷ []) t (length files)) k)))
-      (transfer_data w 0) in
+      IsPrefix (joined_bytes (abandoned_stream size limit (take t (walk_data w))
+      (data_between files (slice_index_or (0 ∷ []) t (length files)) k))) (transfer_data w 0) in
       subst P (sym is) at_first
     where
       n : ℕ

@@ -1,5 +1,6 @@
 pub mod Pieces
 pub mod Blocks
+pub mod Flowing
 pub mod Streamed
 pub mod Openings
 pub mod Told

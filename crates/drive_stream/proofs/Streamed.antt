@@ -83,11 +83,11 @@ module _ {I S F : Type 0} (told : I → Told) (is_calm : I → Type 0) (faults :
         ending = closes.ending;
         is = closes.is;
         ended = flows.ended;
-        kept = flows.kept;
-        blocks = flows.blocks;
-        hands = flows.hands;
-        left = λ header was. closes.left header ([] ++ joined_bytes flows.blocks) before
-            (flows.on header [] before (begins header was));
+        kept = flows.taken.kept;
+        blocks = flows.taken.blocks;
+        hands = flows.taken.hands;
+        left = λ header was. closes.left header ([] ++ joined_bytes flows.taken.blocks) before
+            (flows.taken.on header [] before (begins header was));
       })
   closed f j a b c before middle late after end stop begins flows (inr broke) =
       inr (record {
@@ -96,9 +96,9 @@ module _ {I S F : Type 0} (told : I → Told) (is_calm : I → Type 0) (faults :
         all = λ e. let whole = end_is_whole end e in (whole.0, flows.ended ∙ ap Some whole.1);
         read = λ ended. broke.read (some_same end ReadFault (sym flows.ended ∙ ended));
         quiet = λ still. absurd (some_none end (sym flows.ended ∙ still));
-        kept = flows.kept;
-        blocks = flows.blocks;
-        hands = flows.hands;
-        left = λ header was. broke.left header ([] ++ joined_bytes flows.blocks) before
-            (flows.on header [] before (begins header was));
+        kept = flows.taken.kept;
+        blocks = flows.taken.blocks;
+        hands = flows.taken.hands;
+        left = λ header was. broke.left header ([] ++ joined_bytes flows.taken.blocks) before
+            (flows.taken.on header [] before (begins header was));
       })

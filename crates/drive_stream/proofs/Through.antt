@@ -12,11 +12,11 @@ use Rattle.disk_feeder.specs.Feeder.{FeederRead}
 use Rattle.disk_feeder.specs.Filling.{HoldsAll}
 use Rattle.run_stop.specs.declared.stop.Stop.{Stop}
 use Rattle.run_stop.specs.declared.stop.Stop.TheVariants as halts
-use Rattle.search_opening.specs.Early.{LeavesEarly}
 use Rattle.drive_stream.specs.declared.stop.StreamStop.{StreamStop}
-use Rattle.drive_stream.specs.declared.stop.StreamStop.TheVariants.{Run}
+use Rattle.drive_stream.specs.declared.stop.StreamStop.TheVariants.{Run, Refused}
 use Rattle.drive_stream.specs.Endings.{Ending}
-use Rattle.drive_stream.specs.Outcome.{BreaksData, EndsStream, LeavesInputs, SaysBefore}
+use Rattle.drive_stream.specs.Opening.{LeavesBefore}
+use Rattle.drive_stream.specs.Outcome.{BreaksData, EndsStream, LeavesInputs, ReadsHead, ReadsRefused, SaysBefore}
 
 module _ {F : Type 0} (takes : Observation → HeaderText → Type 0) (refuses : Observation → HeaderText → F → Type 0)
     (leaves : Observation → HeaderText → List ℕ → Ending F → SinkSeen → SinkSeen → Type 0) (s : RunSeen) where
@@ -61,19 +61,23 @@ pub left_unread : {F : Type 0} (s : RunSeen) (is_calm : Type 0) (told : Told) �
     LeavesInputs {F = F} s is_calm told told (Some (Run halts.Memory))
 left_unread s is_calm told = record { unread = λ is. inl refl; broken = λ is. absurd cc }
 
-run_same : {F : Type 0} (a : StreamStop F) (b : Stop) → Some a ≡ Some (Run b) → a ≡ Run b
-run_same a b is = cc
+run_same : {F : Type 0} (stop : StreamStop F) (a b : Stop) → stop ≡ Run a → Some stop ≡ Some (Run b) → a ≡ b
+run_same stop a b here is = cc
 
 pub left_early : {I F : Type 0} (told : I → Told) (is_calm : I → Type 0) (s : RunSeen) (old start new : I)
-    (stop : StreamStop F) → start ≡ old → ((what : Stop) → stop ≡ Run what →
-    LeavesEarly s (is_calm start) (told start) (told new) what) →
+    (stop : StreamStop F) → start ≡ old → LeavesBefore s (is_calm start) (told start) (told new) stop →
     LeavesInputs s (is_calm old) (told old) (told new) (Some stop)
-left_early told is_calm s old start new stop same left =
-    let P : _ → Type 0 = λ i. LeavesInputs s (is_calm i) (told i) (told new) (Some stop) in
-    subst P same (record {
-      unread = λ is. inr ((left halts.Memory (run_same stop halts.Memory is)).unread refl);
-      broken = λ is. inl ((left halts.ReadFault (run_same stop halts.ReadFault is)).broke refl);
-    })
+left_early {I} {F} told is_calm s old start new stop same left =
+    let P : I → Type 0 = λ i. LeavesInputs s (is_calm i) (told i) (told new) (Some stop) in
+    subst P same (by stop left)
+  where
+    by : (stop : StreamStop F) → LeavesBefore s (is_calm start) (told start) (told new) stop →
+        LeavesInputs s (is_calm start) (told start) (told new) (Some stop)
+    by (Run stop) left = record {
+      unread = λ is. inr (left.unread (run_same (Run stop) stop halts.Memory refl is));
+      broken = λ is. inl (left.broke (run_same (Run stop) stop halts.ReadFault refl is));
+    }
+    by (Refused refusal) left = record { unread = λ is. absurd cc; broken = λ is. absurd cc }
 
 pub left_broken : {I F : Type 0} (told : I → Told) (is_calm : I → Type 0) (faults : I → ℕ) (s : RunSeen)
     (old start mid new : I) (failed : Type 0) (stop : Option (StreamStop F)) → start ≡ old →
@@ -88,7 +92,8 @@ left_broken told is_calm faults s old start mid new failed stop same read memory
     record {
       unread = λ is. absurd (memory is);
       broken = λ is.
-          let b = broken is (names_through told is_calm faults old start mid failed same read) (subst Read same begins) in
+          let names = names_through told is_calm faults old start mid failed same read in
+          let b = broken is names (subst Read same begins) in
           let calmer : is_calm old → is_calm mid = λ calm. read.calm (subst is_calm (sym same) calm) in
           inr (record {
             at = b.at;
@@ -103,3 +108,20 @@ left_broken told is_calm faults s old start mid new failed stop same read memory
             unopened = λ calm. b.unopened (calmer calm);
           });
     }
+
+-- ---- what was read where the program refuses
+
+pub refused_unread : {F : Type 0}
+    (leaves : Observation → HeaderText → List ℕ → Ending F → SinkSeen → SinkSeen → Type 0) (s : RunSeen) (told : Told)
+    (seen : SinkSeen) → ReadsRefused leaves s told told seen seen (Some (Run halts.Memory))
+refused_unread leaves s told seen refusal is = absurd cc
+
+pub refused_early : {I F : Type 0} (told : I → Told) (is_calm : I → Type 0)
+    (leaves : Observation → HeaderText → List ℕ → Ending F → SinkSeen → SinkSeen → Type 0) (s : RunSeen)
+    (old start new : I) (seen : SinkSeen) (stop : StreamStop F) → start ≡ old →
+    LeavesBefore s (is_calm start) (told start) (told new) stop →
+    ReadsRefused leaves s (told old) (told new) seen seen (Some stop)
+refused_early told is_calm leaves s old start new seen (Run stop) same left refusal is files are =
+    absurd cc
+refused_early told is_calm leaves s old start new seen (Refused other) same left refusal is files are =
+    let Reads : _ → Type 0 = λ i. ReadsHead s (told i) (told new) in inl (subst Reads same left files are)

@@ -1,7 +1,9 @@
 -- Files that are told, by the settings and by the feeder's plan.
 use Rattle.std.proofs.Common.{◌≡◌, ℕ, ◌+◌, ◌<◌, List, [], Option, None, length, sym, ap, ◌∙◌, subst}
 use Rattle.std.specs.Prelude.{⊤, slice_index_or}
-use Rattle.psr_base.specs.Told.{Told}
+use Rattle.psr_base.specs.Told.{Told, OfFile}
+use Rattle.dada_model.specs.Fields.{HeaderText}
+use Rattle.dada_model.specs.Observation.{Observation}
 use Rattle.search_words.specs.Settings.{RunSeen}
 use Rattle.stream_model.specs.Walk.{FileStream, stop_at}
 use Rattle.disk_feeder.specs.declared.feeder.Feeder.{Feeder}
@@ -10,6 +12,7 @@ use Rattle.disk_feeder.specs.Plan.{stream_of, AreTold, AreToldAt}
 use Rattle.disk_feeder.specs.Reading.{NoStopBefore}
 use Rattle.run_stop.specs.Runs.{stream_for}
 use Rattle.search_opening.specs.Settings.{OfRun, OfRunAt, PassesRunTo}
+use Rattle.drive_stream.specs.Outcome.{BeginsWith, OfHead, first_header}
 
 -- files are told as long as what is told under the names stands
 pub still_told : (Needed : ℕ → Type 0) (old new : Told) (names files : List (List ℕ)) →
@@ -19,6 +22,20 @@ still_told Needed old new names files same are = record {
   each = λ k below needed.
       ap (λ (under : List ℕ → Option (List ℕ)). under (slice_index_or names k [])) same ∙ are.each k below needed;
 }
+
+-- so is what holds of a file that is told
+pub file_still : (old new : Told) (name : List ℕ) (P : List ℕ → Type 0) → new.bytes_under ≡ old.bytes_under →
+    OfFile new name P → OfFile old name P
+file_still old new name P same holds file is =
+    holds file (ap (λ (under : List ℕ → Option (List ℕ)). under name) same ∙ is)
+
+-- what holds of a header and its observation holds of the files that begin with them
+pub of_head : (o : Observation) (h : HeaderText) (w : FileStream) → BeginsWith o h w →
+    (P : Observation → HeaderText → Type 0) → P o h → OfHead P w
+of_head o h w is P holds =
+    let Q : Observation → Type 0 = λ p. P p (first_header w) in
+    let R : HeaderText → Type 0 = λ g. P o g in
+    subst Q (sym is.is) (subst R (sym is.header_is) holds)
 
 -- of all files, those that are needed are told
 pub some_told : (Needed : ℕ → Type 0) (told : Told) (names files : List (List ℕ)) → AreTold told names files →

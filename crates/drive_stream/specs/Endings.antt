@@ -6,13 +6,15 @@ use Rattle.drive_stream.specs.declared.faults.OpenFault.TheVariants as opening
 use Rattle.drive_stream.specs.declared.faults.FinishFault.{FinishFault}
 use Rattle.drive_stream.specs.declared.faults.FinishFault.TheVariants as finishing
 
--- where a call of the output failed: before the data or while they came; once all had come; or once they had stopped early
+-- where a call of the output failed: before the data or while they came; once all had come; or once they had stopped
+-- early
 pub data Phase : Type 0 where
   Midway : Phase
   AtEnd : Phase
   AtStop : Phase
 
--- all data came and were taken; they stopped early; a call of the output failed; or the program refuses them at their end
+-- all data came and were taken; they stopped early; a call of the output failed; or the program refuses them at their
+-- end
 pub data Ending (F : Type 0) : Type 0 where
   All : Ending F
   Early : Ending F

@@ -21,8 +21,8 @@ pub record HasBegun {S : Type 0} (streams : Standing S) (stream : S) (now : Sink
   pub start : SinkSeen
   pub stands : streams header [] stream start now
 
--- What a feeder keeps that handed out blocks: its files, how they are told, and how faults of the inputs are counted; of
--- calm inputs a fault comes only at a file that isn't told and was not opened.
+-- What a feeder keeps that handed out blocks: its files, how they are told, and how faults of the inputs are counted;
+-- of calm inputs a fault comes only at a file that isn't told and was not opened.
 pub record KeepsOn {I : Type 0} (told : I → Told) (is_calm : I → Type 0) (faults : I → ℕ)
     (old new : Feeder I) : Type 0 where
   pub plan : plan_at new ≡ plan_at old
@@ -42,26 +42,29 @@ pub record KeepsOn {I : Type 0} (told : I → Told) (is_calm : I → Type 0) (fa
       FeederUnopened before (told new.inputs.now) new
 
 -- it handed out blocks, and their data were taken
-pub record FlowsOn {I S : Type 0} (told : I → Told) (is_open : I → Type 0) (is_calm : I → Type 0)
-    (faults : I → ℕ) (streams : Standing S) (old new : Feeder I) (a b : S)
-    (before after : SinkSeen) : Type 0 where
-  pub running : has_end new ≡ None
-  pub file : HasOpenFile new → is_open new.inputs.now
+pub record TakesBlocks {I S : Type 0} (told : I → Told) (is_calm : I → Type 0) (faults : I → ℕ)
+    (streams : Standing S) (old new : Feeder I) (a b : S) (before after : SinkSeen) :
+    Type 0 where
   pub kept : KeepsOn told is_calm faults old new
   pub blocks : List Entry
   pub hands : FeederHands (told new.inputs.now) new blocks
   pub on : StreamsOn streams a (joined_bytes blocks) b before after
 
--- the data ended so, and all that was handed out was taken
+-- and more may come
+pub record FlowsOn {I S : Type 0} (told : I → Told) (is_open : I → Type 0) (is_calm : I → Type 0)
+    (faults : I → ℕ) (streams : Standing S) (old new : Feeder I) (a b : S)
+    (before after : SinkSeen) : Type 0 where
+  pub running : has_end new ≡ None
+  pub file : HasOpenFile new → is_open new.inputs.now
+  pub taken : TakesBlocks told is_calm faults streams old new a b before after
+
+-- or the data ended so
 pub record FlowsTo {I S : Type 0} (told : I → Told) (is_calm : I → Type 0) (faults : I → ℕ)
     (streams : Standing S) (old new : Feeder I) (a b : S) (before after : SinkSeen)
     (end : FeedEnd) : Type 0 where
   pub ended : has_end new ≡ Some end
-  pub kept : KeepsOn told is_calm faults old new
-  pub blocks : List Entry
-  pub hands : FeederHands (told new.inputs.now) new blocks
-  pub on : StreamsOn streams a (joined_bytes blocks) b before after
-  pub few : length (joined_bytes blocks) ≤ most_streamed
+  pub taken : TakesBlocks told is_calm faults streams old new a b before after
+  pub few : length (joined_bytes taken.blocks) ≤ most_streamed
 
 -- or a call of the output failed
 pub record BreaksFlow {I S F : Type 0} (told : I → Told) (is_calm : I → Type 0) (faults : I → ℕ)

@@ -5,22 +5,26 @@ use Rattle.psr_base.specs.Told.{Told}
 use Rattle.dada_model.specs.Fields.{HeaderText}
 use Rattle.dada_model.specs.Observation.{Observation}
 use Rattle.search_words.specs.Settings.{RunSeen, RunInRange}
-use Rattle.stream_model.specs.WalkLaws.{AreWalked}
 use Rattle.disk_feeder.specs.declared.feeder.Feeder.{Feeder}
 use Rattle.disk_feeder.specs.Feeder.{HasPlan, HasOpenFile, FeederFaultless, FeederRead, has_end}
 use Rattle.disk_feeder.specs.Handing.{FeederHands}
 use Rattle.run_stop.specs.declared.stop.Stop.TheVariants.{Memory}
-use Rattle.run_stop.specs.Runs.{first_observation}
+use Rattle.search_opening.specs.Early.{LeavesEarly}
 use Rattle.search_opening.specs.Settings.{OfRunFirsts}
 use Rattle.drive_stream.specs.declared.stop.StreamStop.{StreamStop}
 use Rattle.drive_stream.specs.declared.stop.StreamStop.TheVariants.{Run, Refused}
-use Rattle.drive_stream.specs.Outcome.{first_header}
+use Rattle.drive_stream.specs.Outcome.{BeginsWith, ReadsHead}
 
 -- why a program opens no stream of an observation: there was no memory, or it refuses it
 abbrev pub StopsOpening : {F : Type 0} → (Observation → HeaderText → F → Type 0) → Observation →
     HeaderText → StreamStop F → Type 0
 StopsOpening refuses o header (Run stop) = stop ≡ Memory
 StopsOpening refuses o header (Refused refusal) = refuses o header refusal
+
+-- what it has read by then: if the program refuses the observation, the first header and nothing else
+abbrev pub LeavesBefore : {F : Type 0} → RunSeen → Type 0 → Told → Told → StreamStop F → Type 0
+LeavesBefore s is_calm before after (Run stop) = LeavesEarly s is_calm before after stop
+LeavesBefore s is_calm before after (Refused refusal) = ReadsHead s before after
 
 -- the blocks of a feeder have a size that settings allow
 pub record HasSize (size most : ℕ) : Type 0 where
@@ -56,5 +60,11 @@ pub record IsOpened {I S : Type 0} (told : I → Told) (is_open : I → Type 0)
   pub header : HeaderText
   pub taken : takes o header
   pub opened : opens o header stream
-  pub firsts : OfRunFirsts (told f.inputs.now) s (λ w.
-      AreWalked w × (first_observation w 0 ≡ o) × (first_header w ≡ header))
+  pub firsts : OfRunFirsts (told f.inputs.now) s (BeginsWith o header)
+
+-- and it has read the first header since, and nothing else
+pub record IsOpenedSince {I S : Type 0} (told : I → Told) (is_open : I → Type 0)
+    (takes : Observation → HeaderText → Type 0) (opens : Observation → HeaderText → S → Type 0)
+    (s : RunSeen) (before : Told) (f : Feeder I) (o : Observation) (stream : S) : Type 0 where
+  pub opened : IsOpened told is_open takes opens s f o stream
+  pub reads : FeederRead before (told f.inputs.now) f

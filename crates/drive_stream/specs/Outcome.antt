@@ -1,9 +1,10 @@
 -- How a run ends that streams the data of one transfer through to its output. In the records `takes` is whether the
--- program takes an observation with a header, `refuses` why it doesn't, and `leaves` what is left of data bytes that were
--- handed to it, by the ending, from the output before to that after.
+-- program takes an observation with a header, `refuses` why it doesn't, and `leaves` what is left of data bytes that
+-- were handed to it, by the ending, from the output before to that after.
 -- Source: this project's choice.
 use Rattle.std.specs.Prelude.{◌≡◌, ◌≢◌, ℕ, ◌+◌, ◌<◌, ◌⊎◌, false, List, length, Option, Some, IsSome}
 use mathlib.Core.List.{IsPrefix}
+use Rattle.dada_model.specs.Bounds.{ObservationInRange}
 use Rattle.dada_model.specs.Fields.{HeaderText, header_of}
 use Rattle.dada_model.specs.Observation.{Observation}
 use Rattle.psr_base.specs.Told.{Told}
@@ -11,8 +12,8 @@ use Rattle.psr_base.specs.Written.{SinkSeen}
 use Rattle.ring_blocks.specs.declared.Entry.{Entry}
 use Rattle.search_words.specs.Settings.{RunSeen}
 use Rattle.stream_model.specs.Blocks.{joined_bytes}
-use Rattle.stream_model.specs.Walk.{FileStream, transfer_data}
-use Rattle.stream_model.specs.WalkLaws.{AreWalked}
+use Rattle.stream_model.specs.Walk.{FileStream, observation_at, transfer_data}
+use Rattle.stream_model.specs.WalkLaws.{AreWalked, IsAccepted}
 use Rattle.dada_recorder.specs.Blocks.{header_or_none}
 use Rattle.disk_feeder.specs.declared.answers.FeedEnd.{FeedEnd}
 use Rattle.disk_feeder.specs.declared.answers.FeedEnd.TheVariants.{Whole, TooLong}
@@ -24,14 +25,14 @@ use Rattle.disk_feeder.specs.Plan.{IsAmong, opened_at}
 use Rattle.disk_feeder.specs.Reading.{judged_at}
 use Rattle.run_stop.specs.declared.stop.Stop.TheVariants.{Memory, ReadFault, SinkFault}
 use Rattle.run_stop.specs.Firsts.{BreaksFirstAt, ReadsFirsts, first_file}
-use Rattle.run_stop.specs.Runs.{RecordingAlone, first_observation}
+use Rattle.run_stop.specs.Runs.{OfEachFirst, RecordingAlone, first_observation}
 use Rattle.search_opening.specs.Early.{SaysEarly}
 use Rattle.search_opening.specs.First.{ComesFirst}
-use Rattle.search_opening.specs.Settings.{OfRun, OfRunAt, OfRunFirsts, OfRunTo, PassesRunTo}
+use Rattle.search_opening.specs.Settings.{JudgesRun, OfRun, OfRunAt, OfRunFirsts, OfRunTo, PassesRunTo}
 use Rattle.drive_stream.specs.declared.stop.StreamStop.{StreamStop}
 use Rattle.drive_stream.specs.declared.stop.StreamStop.TheVariants.{Run}
 use Rattle.drive_stream.specs.declared.stop.StreamStop.TheVariants as stops
-use Rattle.drive_stream.specs.Endings.{Ending, Phase, Failed, AtEnd}
+use Rattle.drive_stream.specs.Endings.{Ending, Phase, Failed, Refused, AtEnd}
 use Rattle.drive_stream.specs.Stops.{IsStopOf}
 
 -- the header of the first file
@@ -42,6 +43,29 @@ first_header w = header_or_none (header_of (first_file w 0))
 abbrev pub OfHead : (Observation → HeaderText → Type 0) → FileStream → Type 0
 OfHead P w = P (first_observation w 0) (first_header w)
 
+-- the header of a file is accepted: it is this one, and this is its observation
+pub record IsHeadOf (o : Observation) (header : HeaderText) (file : List ℕ) : Type 0 where
+  pub accepted : IsAccepted file
+  pub header_is : header_or_none (header_of file) ≡ header
+  pub is : observation_at file ≡ o
+
+-- so it is with the first file of a walk
+pub record BeginsWith (o : Observation) (header : HeaderText) (w : FileStream) : Type 0 where
+  pub walked : AreWalked w
+  pub header_is : first_header w ≡ header
+  pub is : first_observation w 0 ≡ o
+
+-- The first header is accepted, and P holds of its observation and of it. Whatever is told, P holds of some observation
+-- and some header; where the first file is told, they are its own.
+pub record OfFirstHead (s : RunSeen) (told : Told) (P : Observation → HeaderText → Type 0) :
+    Type 0 where
+  pub observation : Observation
+  pub header : HeaderText
+  pub range : ObservationInRange observation
+  pub holds : P observation header
+  pub first : JudgesRun told s (OfEachFirst told s (IsHeadOf observation header))
+      (BeginsWith observation header)
+
 -- ---- before the data
 
 -- what a stop says there: the first header is refused, the inputs failed, or there was no memory; or the header is
@@ -49,8 +73,8 @@ OfHead P w = P (first_observation w 0) (first_header w)
 abbrev pub SaysBefore : {F : Type 0} → (Observation → HeaderText → F → Type 0) → RunSeen → Told →
     StreamStop F → Type 0
 SaysBefore refuses s told (Run stop) = ComesFirst stop × SaysEarly RecordingAlone s told stop
-SaysBefore refuses s told (stops.Refused refusal) = OfRunFirsts told s (λ w.
-    AreWalked w × OfHead (λ o header. refuses o header refusal) w)
+SaysBefore refuses s told (stops.Refused refusal) =
+    OfFirstHead s told (λ o header. refuses o header refusal)
 
 -- nothing was written, and the stop says why by the first file
 pub record EndsEarly {F : Type 0} (refuses : Observation → HeaderText → F → Type 0) (s : RunSeen)
@@ -113,11 +137,11 @@ EndsStream takes refuses leaves s told before after stop =
 
 -- ---- what was read
 
--- A fault of the inputs came while data were read, at this place, whose file is there. No file before that one stops the
--- walk, each by the files up to it. By those that were opened, nothing that was read does, and the full blocks of some
--- size are those of the data bytes that were read. Where the file at the place is told too, and the first one, it was
--- not opened or its header isn't judged, or it was read up to the place. Calm inputs could not open it, since it isn't
--- told: where those before it are, and the first one, these were read to their ends, and nothing else was.
+-- A fault of the inputs came while data were read, at this place, whose file is there. No file before that one stops
+-- the walk, each by the files up to it. By those that were opened, nothing that was read does, and the full blocks of
+-- some size are those of the data bytes that were read. Where the file at the place is told too, and the first one, it
+-- was not opened or its header isn't judged, or it was read up to the place. Calm inputs could not open it, since it
+-- isn't told: where those before it are, and the first one, these were read to their ends, and nothing else was.
 pub record BreaksData (s : RunSeen) (is_calm : Type 0) (before after : Told) : Type 0 where
   pub at : Place
   pub size : ℕ
@@ -132,11 +156,24 @@ pub record BreaksData (s : RunSeen) (is_calm : Type 0) (before after : Told) : T
   pub unopened : is_calm → OfRunAt (IsAmong at.file s.starts (length s.names)) before s (λ w.
       IsShut s.names w before after at.transfer at.file at.since)
 
+-- the first header was read, and no byte past it
+abbrev pub ReadsHead : RunSeen → Told → Told → Type 0
+ReadsHead s before after = OfRunFirsts before s (λ w. ReadsFirsts s.names w before after)
+
+-- so it is where the program refuses the observation of the first header; or it refuses data at their end
+abbrev pub ReadsRefused : {F : Type 0} →
+    (Observation → HeaderText → List ℕ → Ending F → SinkSeen → SinkSeen → Type 0) → RunSeen →
+    Told → Told → SinkSeen → SinkSeen → Option (StreamStop F) → Type 0
+ReadsRefused {F} leaves s before after out_before out_after stop = (refusal : F) →
+    stop ≡ Some (stops.Refused refusal) → OfRunFirsts before s (λ w.
+    ReadsFirsts s.names w before after ⊎ ((bytes : List ℕ)
+    × OfHead (λ o header. leaves o header bytes (Refused refusal) out_before out_after) w))
+
 -- What was read by then: no file was opened, or the first header was read and no byte past it, if there was no memory;
 -- and what a fault of the inputs left, before the first header was judged or while data were read.
 pub record LeavesInputs {F : Type 0} (s : RunSeen) (is_calm : Type 0) (before after : Told)
     (stop : Option (StreamStop F)) : Type 0 where
   pub unread : stop ≡ Some (Run Memory) →
-      (after ≡ before) ⊎ OfRunFirsts before s (λ w. ReadsFirsts s.names w before after)
+      (after ≡ before) ⊎ ReadsHead s before after
   pub broken : stop ≡ Some (Run ReadFault) →
       BreaksFirstAt s.names s.starts is_calm before after ⊎ BreaksData s is_calm before after

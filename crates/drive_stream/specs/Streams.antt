@@ -1,6 +1,7 @@
--- What a program makes of the data of a stream, call by call. `streams` is what stands of a header, of the data bytes that
--- were taken, of the program's state, and of the output before the first call and now; `leaves` what is left of a header
--- and of the bytes that were handed to it, by its ending, from the output before the first call to that after the last.
+-- What a program makes of the data of a stream, call by call. `streams` is what stands of a header, of the data bytes
+-- that were taken, of the program's state, and of the output before the first call and now; `leaves` what is left of a
+-- header and of the bytes that were handed to it, by its ending, from the output before the first call to that after
+-- the last.
 -- Source: this project's choice.
 use Rattle.std.specs.Prelude.{ℕ, ◌+◌, ◌^◌, ◌≤◌, List, [], ◌++◌, length}
 use Rattle.dada_model.specs.Fields.{HeaderText}
@@ -20,8 +21,8 @@ abbrev pub most_streamed : ℕ
 most_streamed = 2 ^ 48 + 2 ^ 24
 
 -- the stream stands, and so many bytes more may come
-pub record IsStreaming {S : Type 0} (streams : Standing S) (more : ℕ) (stream : S) (now : SinkSeen) :
-    Type 0 where
+pub record IsStreaming {S : Type 0} (streams : Standing S) (more : ℕ) (stream : S)
+    (now : SinkSeen) : Type 0 where
   pub header : HeaderText
   pub bytes : List ℕ
   pub start : SinkSeen
@@ -33,12 +34,14 @@ abbrev pub IsAtHead : {S : Type 0} → (HeaderText → S → Type 0) → S → T
 IsAtHead opens stream = (header : HeaderText) × opens header stream
 
 -- so it stands now
-abbrev pub Begins : {S : Type 0} → (HeaderText → S → Type 0) → Standing S → S → S → SinkSeen → SinkSeen → Type 0
+abbrev pub Begins : {S : Type 0} → (HeaderText → S → Type 0) → Standing S → S → S → SinkSeen →
+    SinkSeen → Type 0
 Begins opens streams old new before after = (header : HeaderText) → opens header old →
     streams header [] new before after
 
 -- or a call of the output failed
-abbrev pub BreaksHead : {S F : Type 0} → (HeaderText → S → Type 0) → Leaving F → S → SinkSeen → SinkSeen → Type 0
+abbrev pub BreaksHead : {S F : Type 0} → (HeaderText → S → Type 0) → Leaving F → S → SinkSeen →
+    SinkSeen → Type 0
 BreaksHead opens leaves old before after = (header : HeaderText) → opens header old →
     leaves header [] (Failed Midway) before after
 
@@ -49,13 +52,15 @@ StreamsOn streams old piece new before after =
     streams header bytes old start before → streams header (bytes ++ piece) new start after
 
 -- bytes came behind those that were taken, and the stream ended so
-abbrev pub LeavesAt : {S F : Type 0} → Standing S → Leaving F → S → List ℕ → Ending F → SinkSeen → SinkSeen → Type 0
+abbrev pub LeavesAt : {S F : Type 0} → Standing S → Leaving F → S → List ℕ → Ending F → SinkSeen →
+    SinkSeen → Type 0
 LeavesAt streams leaves old piece ending before after =
     (header : HeaderText) (bytes : List ℕ) (start : SinkSeen) →
     streams header bytes old start before → leaves header (bytes ++ piece) ending start after
 
 -- so it ended with the bytes that were taken
-abbrev pub EndsAs : {S F : Type 0} → Standing S → Leaving F → S → Ending F → SinkSeen → SinkSeen → Type 0
+abbrev pub EndsAs : {S F : Type 0} → Standing S → Leaving F → S → Ending F → SinkSeen → SinkSeen →
+    Type 0
 EndsAs streams leaves old ending before after =
     (header : HeaderText) (bytes : List ℕ) (start : SinkSeen) →
     streams header bytes old start before → leaves header bytes ending start after

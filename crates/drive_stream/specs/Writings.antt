@@ -21,8 +21,8 @@ use Rattle.drive_stream.specs.Stops.{IsStopOf}
 use Rattle.drive_stream.specs.Streams.{Leaving}
 
 -- all that was handed out of it was taken, and this is left of it
-abbrev pub LeavesOf : {S F : Type 0} → (HeaderText → S → Type 0) → Leaving F → S → List ℕ → Ending F →
-    SinkSeen → SinkSeen → Type 0
+abbrev pub LeavesOf : {S F : Type 0} → (HeaderText → S → Type 0) → Leaving F → S → List ℕ →
+    Ending F → SinkSeen → SinkSeen → Type 0
 LeavesOf opens leaves stream bytes ending before after = (header : HeaderText) →
     opens header stream → leaves header bytes ending before after
 

@@ -2,6 +2,7 @@
 ghost use Rattle.std.specs.Prelude.{◌≡◌, ◌≢◌, ◌≤◌, ℕ, List, [], ◌∷◌, length, Some, Err, IfOk, IfErr, OnOk};
 ghost use Rattle.psr_base.specs.Inputs.{HasReadFrom};
 ghost use Rattle.psr_base.specs.Told.{Told};
+ghost use Rattle.dada_model.specs.Bounds.{ObservationInRange};
 ghost use Rattle.dada_model.specs.Observation.{Observation as Described};
 ghost use Rattle.search_words.specs.Settings.{run_seen};
 ghost use Rattle.disk_feeder.specs.Feeder.{FeederRead, HasPlan, IsBegun, IsFresh, block_size, headers_of};
@@ -9,10 +10,9 @@ ghost use Rattle.disk_feeder.specs.Filling.{HoldsAll};
 ghost use Rattle.run_stop.specs.declared.stop.Stop.{Stop as Stopped};
 ghost use Rattle.run_stop.specs.declared.stop.Stop.TheVariants.{Memory};
 ghost use Rattle.search_opening.specs.Begun.{HasFirsts};
-ghost use Rattle.search_opening.specs.Early.{LeavesEarly};
 ghost use Rattle.search_opening.specs.First.{AreObserved};
 ghost use Rattle.drive_stream.specs.Outcome.{SaysBefore};
-ghost use Rattle.drive_stream.specs.Opening.{HasSize, IsOfOne, IsOpened, IsReady, StopsOpening};
+ghost use Rattle.drive_stream.specs.Opening.{HasSize, IsOfOne, IsOpened, IsOpenedSince, IsReady, LeavesBefore, StopsOpening};
 
 use crate::faults::OpenFault;
 use crate::stop::StreamStop;
@@ -47,7 +47,9 @@ fn open_for<T: Streaming>(
     ensures takes { OnOk result (T.takes task.now observation.now header.now) }
     ensures opened { IfOk result (T.opens task.now observation.now header.now) }
     ensures stopped { IfErr result (StopsOpening (T.refuses task.now) observation.now header.now) }
+    ensures range { ObservationInRange observation.now }
 {
+    observation.lies_in_range();
     match task.open(alloc, observation, header) {
         Ok(stream) => Ok(stream),
         Err(OpenFault::Refused(refusal)) => Err(StreamStop::Refused(refusal)),
@@ -70,6 +72,7 @@ fn open_first<T: Streaming>(
         → T.opens task.now o header.now stream) }
     ensures stopped { IfErr result (λ stop. (o : Described) → observations.now ≡ Some o ∷ []
         → StopsOpening (T.refuses task.now) o header.now stop) }
+    ensures range { (o : Described) → observations.now ≡ Some o ∷ [] → ObservationInRange o }
 {
     let Some(observation) = &observations[0] else {
         unreachable!()
@@ -202,15 +205,14 @@ pub(crate) fn open<'a, I: Inputs, T: Streaming>(
     ensures serves { I.is_calm feeder.old.inputs.now
         → HoldsAll (I.told feeder.old.inputs.now) (run_seen run.now).names
         → result ≢ Err (StreamStop.Run Stop.ReadFault) }
-    ensures opened { IfOk result (λ r. IsOpened I.told I.is_open (T.takes task.now)
-        (T.opens task.now) (run_seen run.now) feeder.new r.observation r.stream) }
+    ensures opened { IfOk result (λ r. IsOpenedSince I.told I.is_open (T.takes task.now)
+        (T.opens task.now) (run_seen run.now) (I.told feeder.old.inputs.now) feeder.new
+        r.observation r.stream) }
     ensures stopped { IfErr result (SaysBefore (T.refuses task.now) (run_seen run.now)
         (I.told feeder.old.inputs.now)) }
-    ensures leaves { (stop : Stopped) → result ≡ Err (StreamStop.Run stop)
-        → LeavesEarly (run_seen run.now) (I.is_calm feeder.old.inputs.now)
-        (I.told feeder.old.inputs.now) (I.told feeder.new.inputs.now) stop }
-    ensures begins { OnOk result (FeederRead (I.told feeder.old.inputs.now)
-        (I.told feeder.new.inputs.now) feeder.new) }
+    ensures leaves { IfErr result (LeavesBefore (run_seen run.now)
+        (I.is_calm feeder.old.inputs.now) (I.told feeder.old.inputs.now)
+        (I.told feeder.new.inputs.now)) }
 {
     early_stops_stand();
     firsts_stay_told();

@@ -6,7 +6,7 @@ ghost use Rattle.search_words.specs.Settings.{RunInRange, run_seen};
 ghost use Rattle.disk_feeder.specs.Feeder.{FeederRead};
 ghost use Rattle.disk_feeder.specs.Filling.{HoldsAll};
 ghost use Rattle.drive_stream.specs.Opening.{IsOfOne, IsOpened};
-ghost use Rattle.drive_stream.specs.Outcome.{BreaksData, EndsStream, LeavesInputs};
+ghost use Rattle.drive_stream.specs.Outcome.{BreaksData, EndsStream, LeavesInputs, ReadsRefused};
 
 use crate::lent::{Lent, give_back};
 use crate::open::{Opened, open};
@@ -52,6 +52,10 @@ fn stream_all<'a, R: Wait, I: Inputs, K: Sink, T: Streaming>(
         → FeederRead before (I.told feeder.old.inputs.now) feeder.old
         → BreaksData (run_seen run.now) (I.is_calm feeder.old.inputs.now) before
         (I.told feeder.new.inputs.now) }
+    ensures refused { (before : Told)
+        → (I.told feeder.old.inputs.now).bytes_under ≡ before.bytes_under
+        → ReadsRefused (T.leaves task.now) (run_seen run.now) before
+        (I.told feeder.new.inputs.now) (K.seen out.old) (K.seen out.new) result }
 {
     faults_leave::<I>();
     feeders_begin::<I>();
@@ -85,6 +89,8 @@ fn within<'a, R: Wait, I: Inputs, K: Sink, T: Streaming>(
         (run_seen run.now) (I.told inputs.old) (K.seen out.old) (K.seen out.new) result.done }
     ensures leaves { LeavesInputs (run_seen run.now) (I.is_calm inputs.old) (I.told inputs.old)
         (I.told result.inputs.now) result.done }
+    ensures refused { ReadsRefused (T.leaves task.now) (run_seen run.now) (I.told inputs.old)
+        (I.told result.inputs.now) (K.seen out.old) (K.seen out.new) result.done }
 {
     let space = match FeederSpace::reserve(
         alloc,
@@ -139,6 +145,8 @@ pub fn drive_stream<R: Wait, I: Inputs, K: Sink, T: Streaming>(
         (run_seen run.now) (I.told inputs.old) (K.seen out.old) (K.seen out.new) result }
     ensures leaves { LeavesInputs (run_seen run.now) (I.is_calm inputs.old) (I.told inputs.old)
         (I.told inputs.new) result }
+    ensures refused { ReadsRefused (T.leaves task.now) (run_seen run.now) (I.told inputs.old)
+        (I.told inputs.new) (K.seen out.old) (K.seen out.new) result }
 {
     give_back(within(rt, alloc, run, task, inputs, out))
 }

@@ -76,8 +76,8 @@ pub trait Streaming {
         ensures broke { OnErr result (BreaksHead (opens self.now observation.now)
             (leaves self.now observation.now) stream.old (K.seen out.old) (K.seen out.new)) };
 
-    /// Takes the front of data bytes, which come behind those that it took, and answers how many it took. It writes what
-    /// comes of them.
+    /// Takes the front of data bytes, which come behind those that it took, and answers how many it took. It writes
+    /// what comes of them.
     fn feed<K: Sink>(
         &self,
         stream: &mut Self::Stream,

@@ -1,4 +1,4 @@
-// Detected folds by the sum of the definition.
+// Detected folds by the fold sums of the definition.
 ghost use Rattle.std.specs.Prelude.{◌≤◌};
 
 use crate::direct_sums::is_detected;
@@ -16,7 +16,7 @@ pub fn is_folded(search: &Search, delay: u32) -> bool {
     false
 }
 
-// The most halvings of which the rows fit into a series.
+// The greatest number of halvings, at most `most`, whose rows of `period` values fit into `room` values.
 fn most_halvings(most: u32, period: u32, room: usize) -> u32
     ensures { result ≤ 12 }
 {
@@ -63,7 +63,7 @@ fn list_trial(
     Ok(())
 }
 
-/// Lists the detected folds of a delay's series, where a path sum has so many cells.
+/// Lists the detected folds of the series of a delay. A path sum has `cells` cells.
 pub fn list_delay(
     list: &mut Vec<Candidate>,
     search: &Search,

@@ -4,7 +4,7 @@ use psr_base::Memory;
 use search_model::{Candidate, Search};
 use std::alloc::Global;
 
-/// Bytes that are the samples of so many channels, spectrum by spectrum, and the edges of the channels in kHz; both
+/// The samples of `channels` channels, a byte each, spectrum by spectrum, and the edges of the channels in kHz. Both go
 /// from the highest frequency down.
 #[derive(Clone, Copy)]
 pub struct Samples<'a> {
@@ -13,7 +13,7 @@ pub struct Samples<'a> {
     pub edges: &'a [u32],
 }
 
-// The square of an edge; 0 where there is none.
+// The square of an edge; 0 past the last.
 fn square_of(edges: &[u32], k: usize) -> u128 {
     match edges.get(k) {
         Some(edge) => u128::from(*edge).wrapping_mul(u128::from(*edge)),
@@ -21,7 +21,7 @@ fn square_of(edges: &[u32], k: usize) -> u128 {
     }
 }
 
-// Of a delay between two edges, the part above the edge between them: by the squares of the wavelengths, rounded.
+// The part above the edge `mid` of a delay between the edges `lo` and `hi`: by the squares of the wavelengths, rounded.
 fn split(edges: &[u32], lo: usize, mid: usize, hi: usize, d: u32) -> u32 {
     let high = square_of(edges, lo);
     let middle = square_of(edges, mid);
@@ -68,7 +68,7 @@ fn path(alloc: Global, samples: Samples<'_>, d: u32) -> Result<Vec<u32>, Memory>
     Ok(delays)
 }
 
-// A sample; 0 before the first spectrum.
+// The sample of a channel in spectrum `t`; 0 before the first spectrum.
 fn sample(samples: Samples<'_>, channel: usize, t: usize) -> u32 {
     let Some(first) = t.checked_mul(samples.channels) else {
         return 0;
@@ -103,7 +103,7 @@ fn path_sum(samples: Samples<'_>, path: &[u32], d: u32, u: usize) -> u32 {
     total
 }
 
-// The sums of delay `d` that end at each of so many spectra.
+// The sums of delay `d` that end at each of the first `spectra` spectra.
 fn sums_of(
     alloc: Global,
     samples: Samples<'_>,
@@ -118,11 +118,14 @@ fn sums_of(
     Ok(row)
 }
 
-/// The path sums of one delay, by the spectrum at which they end, and how many cells each adds up.
+/// The path sums of one delay.
 #[derive(Drop)]
 pub struct Row {
+    /// The delay, in spectra.
     pub delay: u32,
+    /// How many cells each path sum adds up.
     pub cells: u32,
+    /// The path sums, by the spectrum at which they end.
     pub sums: Vec<u32>,
 }
 
@@ -143,7 +146,7 @@ pub fn rows(
     Ok(rows)
 }
 
-// The sum of the last so many sums that end at `end`, if the first of them ends at the delay or later.
+// The sum of the `width` path sums up to the one that ends at `end`. `None` if the first of them ends before the delay.
 fn box_sum(row: &Row, end: u32, width: u32) -> Option<u32> {
     let begin = end.checked_add(1)?.checked_sub(width)?;
     if begin < row.delay {
@@ -156,7 +159,7 @@ fn box_sum(row: &Row, end: u32, width: u32) -> Option<u32> {
     Some(total)
 }
 
-/// Whether a sum of so many cells is detected. None is where a number lies out of its range.
+/// Whether a sum of `cells` cells is detected. None is if a number is out of its range.
 pub fn is_detected(search: &Search, sum: u32, cells: u64) -> bool {
     if search.mean > 200000000 || search.sd > 200000000 || search.snr > 100000 {
         return false;

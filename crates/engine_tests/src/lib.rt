@@ -1,5 +1,5 @@
-//! Tests of the search of a shard. There is nothing else here: a crate with tests is proved twice, so those that
-//! cross crates stand together.
+//! Tests of the search of a shard. A crate with tests is proved twice, so the tests of several crates stand together in
+//! one that has nothing else.
 #![tactic(auto)]
 
 #[cfg(test)]

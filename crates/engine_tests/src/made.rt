@@ -1,4 +1,4 @@
-// Observations that are made, and the lines of tables.
+// Observations for tests, and the lines of tables.
 use dada_header::Header;
 use obs_plan::Observation;
 use std::alloc::Global;
@@ -15,7 +15,7 @@ BW -200
 OBS_OFFSET 0
 ";
 
-/// The observation of a header.
+/// The observation of a header with these lines, or `None` if it is refused.
 pub fn observation(alloc: Global, lines: &str) -> Option<Observation> {
     let mut bytes = Vec::from_slice(alloc, lines.as_bytes()).ok()?;
     bytes.resize(4096, 0).ok()?;
@@ -23,7 +23,7 @@ pub fn observation(alloc: Global, lines: &str) -> Option<Observation> {
     Observation::of(alloc, &header).ok()
 }
 
-/// The fields of a line of a table, which `|` parts. Those that it doesn't have are empty.
+/// The fields of a line of a table, with `|` between them. Missing ones are empty.
 pub fn fields_of(line: &'static str) -> [&'static str; 3] {
     let mut fields = [""; 3];
     for (i, field) in line.split('|').enumerate() {

@@ -21,7 +21,7 @@ FREQ 1382
 BW -400
 ";
 
-// Neither boxes nor folds are many.
+// A search with narrow boxes and no folds.
 const SEARCH: Search = Search {
     min_delay: 0,
     max_delay: 1,
@@ -38,7 +38,7 @@ const SEARCH: Search = Search {
     snr: 100,
 };
 
-// The header; the numbers that differ from those above; and the plan's first refusal.
+// On each line: the header; the settings that differ from those of `SEARCH`; and the first refusal of the plan.
 const PLANS: &str = "
 two | | planned
 most | max_delay 8192, fold_rows 12, fold_step 8192 | sum_bound 255 12288 4096
@@ -56,7 +56,7 @@ fn lines_of(header: &str) -> &'static str {
     }
 }
 
-// The search with the numbers that are named in `max_delay 512, widest 32`, or none where one has another name.
+// The search with settings such as `max_delay 512, widest 32`, or `None` if there is another name.
 fn search_of(settings: &'static str) -> Option<Search> {
     let mut search = SEARCH;
     for setting in settings.split(',') {
@@ -76,7 +76,7 @@ fn search_of(settings: &'static str) -> Option<Search> {
     Some(search)
 }
 
-// The answer about a plan, in a word and its numbers.
+// The answer about a plan, as its name and its numbers.
 fn answer_of(answer: Result<(), PlanFault>) -> (&'static str, [u32; 3]) {
     match answer {
         Ok(()) => ("planned", [0, 0, 0]),
@@ -94,7 +94,7 @@ fn answer_of(answer: Result<(), PlanFault>) -> (&'static str, [u32; 3]) {
     }
 }
 
-// Whether an answer is that of `too_many_shards 3 2`.
+// Whether an answer is the one that a text such as `too_many_shards 3 2` means.
 fn is_wanted(answer: Result<(), PlanFault>, wanted: &'static str) -> bool {
     let (word, numbers) = answer_of(answer);
     let mut words = wanted.split_whitespace();
@@ -109,7 +109,7 @@ fn is_wanted(answer: Result<(), PlanFault>, wanted: &'static str) -> bool {
     true
 }
 
-// Whether the plan of a line is refused as it says.
+// Whether the plan of a line gets the answer of the line.
 fn is_met(alloc: Global, line: &'static str) -> bool {
     let [header, settings, wanted] = fields_of(line);
     let Some(observation) = observation(alloc, lines_of(header)) else {

@@ -78,7 +78,7 @@ fn header_of(name: &str) -> &'static str {
     }
 }
 
-// The marks of channels: an `x` for each that is masked.
+// The marks of channels: `x` for each that is masked.
 fn marks_of(alloc: Global, word: &str) -> Result<Vec<bool>, Memory> {
     let mut marks = Vec::new(alloc);
     for letter in word.as_bytes() {
@@ -91,7 +91,7 @@ fn is_marked(marks: &[bool], channel: usize) -> bool {
     marks.get(channel).copied().unwrap_or(false)
 }
 
-// The samples without those of the masked channels.
+// The samples, with 0 in masked channels.
 fn without(alloc: Global, samples: &[u8], marks: &[bool]) -> Result<Vec<u8>, Memory> {
     let mut kept = Vec::new(alloc);
     for (i, sample) in samples.iter().enumerate() {
@@ -104,7 +104,7 @@ fn without(alloc: Global, samples: &[u8], marks: &[bool]) -> Result<Vec<u8>, Mem
     Ok(kept)
 }
 
-// Adds the bytes of a sample: the values of its polarisations add up to it.
+// Appends the bytes of a sample: its polarisations, whose values add up to it.
 fn push_sample(
     bytes: &mut Vec<u8>,
     observation: &Observation,
@@ -130,7 +130,7 @@ fn push_sample(
     Ok(())
 }
 
-// The data bytes of samples, whose masked channels have great samples in place of theirs.
+// The data bytes of samples. Masked channels have large samples instead.
 fn data_of(
     alloc: Global,
     observation: &Observation,
@@ -152,7 +152,7 @@ fn data_of(
     Ok(bytes)
 }
 
-// The path sums of each delay over samples of so many spectra.
+// The path sums of each delay over the samples of `spectra` spectra.
 fn rows_of(
     alloc: Global,
     observation: &Observation,
@@ -167,7 +167,7 @@ fn rows_of(
     rows(alloc, samples, &SEARCH, spectra)
 }
 
-// How many cells of the channels that are kept lie on the path of each delay: its sum where each of their samples is 1.
+// How many kept cells lie on the path of each delay: its path sum, if all samples of kept channels are 1.
 fn counts_of(alloc: Global, observation: &Observation, marks: &[bool]) -> Result<Vec<u32>, Memory> {
     let ones = [1_u8; 50];
     let ones = without(alloc, &ones, marks)?;
@@ -203,8 +203,8 @@ fn low_noise(alloc: Global, count: usize) -> Result<Vec<u8>, Memory> {
     Ok(samples)
 }
 
-// What an engine finds in bytes that are fed in pieces of these lengths, over and over; nothing where it counts other
-// spectra.
+// What an engine finds in bytes that are fed in pieces of these lengths, over and over. `None` if it counts the wrong
+// number of spectra.
 fn found(mut engine: Engine, bytes: &[u8], lengths: &[usize]) -> Option<Book> {
     feed_cut(&mut engine, bytes, lengths);
     if !engine.has_ended() {
@@ -219,7 +219,7 @@ fn found(mut engine: Engine, bytes: &[u8], lengths: &[usize]) -> Option<Book> {
     }
 }
 
-// Whether there are no more cells than on a path.
+// Whether no path has more cells than it can have.
 fn fit(counts: &[u32], channels: u32) -> bool
     ensures { IsTrue result → (d : ℕ) → slice_index counts.now d ≤ channels + d }
 {
@@ -248,7 +248,7 @@ fn open_channels(
     Engine::open_for(alloc, observation, search, 0, scope)
 }
 
-// What the search of some channels finds, if it can be opened.
+// What the search of some channels finds, or `None` if it can't be opened.
 fn find_kept(
     alloc: Global,
     observation: &Observation,
@@ -298,7 +298,7 @@ fn direct_of(
     direct(alloc, observation, kept.as_slice(), counts)
 }
 
-// Whether the search of some channels finds the direct candidates of these alone.
+// Whether the search of some channels finds exactly the direct candidates of these channels.
 fn finds_kept(
     alloc: Global,
     observation: &Observation,
@@ -327,7 +327,7 @@ fn finds_kept(
     Ok(found && wanted.len() >= 50)
 }
 
-// An observation, the marks of its channels, and the lengths of the pieces that are fed, over and over.
+// On each line: an observation, the marks of its channels, and the lengths of the pieces that are fed, over and over.
 const MASKS: &str = "falling 8 | .x..x | 1000
 falling 8 | ..... | 7 1
 falling 8 | xx.x | 3
@@ -363,7 +363,7 @@ fn ends_within(candidate: &Candidate, place: u32, until: u32) -> bool {
     }
 }
 
-// Whether a list has just those candidates of another that end within a part.
+// Whether `part` has exactly those candidates of `all` that end within a part.
 fn is_part_of(part: &[Candidate], all: &[Candidate], place: u32, until: u32) -> bool {
     let mut next = 0_usize;
     for candidate in all {
@@ -398,7 +398,7 @@ fn open_part(
     Engine::open_for(alloc, observation, search, 0, scope)
 }
 
-// What the search of all finds.
+// What the search of the whole observation finds.
 fn find_all(alloc: Global, observation: &Observation, bytes: &[u8]) -> Option<Book> {
     let search = SEARCH;
     if !search.in_range() {
@@ -429,7 +429,7 @@ fn find_part(
     }
 }
 
-// Whether the search of a part finds that part of these candidates.
+// Whether the search of a part finds exactly those of the candidates `all` that lie in the part.
 fn finds_part_of(
     alloc: Global,
     observation: &Observation,
@@ -445,7 +445,7 @@ fn finds_part_of(
     }
 }
 
-// Whether the search of a part finds the part of what the search of all finds.
+// Whether the search of a part finds exactly that part of what the search of the whole observation finds.
 fn finds_part(
     alloc: Global,
     observation: &Observation,
@@ -469,7 +469,8 @@ fn finds_part(
     }
 }
 
-// From and before which spectrum pulses end, and the lengths of the pieces that are fed, over and over.
+// On each line: the first spectrum at which pulses of the part end, the spectrum before which it stops, and the lengths
+// of the pieces that are fed, over and over.
 const PARTS: &str = "0 90 | 20000
 0 1 | 1
 1 40 | 7

@@ -55,7 +55,7 @@ pub fn noise(alloc: Global, count: usize) -> Result<Vec<u8>, Memory> {
     Ok(bytes)
 }
 
-// Feeds a piece, if the engine takes it.
+// Feeds a piece, if the engine can take it.
 fn feed_piece(engine: &mut Engine, piece: &[u8]) {
     if !engine.has_ended() && engine.fed() <= 1 << 40 && piece.len() <= 1 << 20 {
         engine.feed(piece);
@@ -80,7 +80,7 @@ struct Found {
     spectra: u64,
 }
 
-// Searches bytes that are fed in pieces of these lengths.
+// Searches bytes that are fed in pieces of these lengths, over and over.
 fn searched(
     alloc: Global,
     observation: &Observation,
@@ -158,7 +158,7 @@ fn of_delays(
     Ok(some)
 }
 
-// The least delay of a shard.
+// The smallest delay of a shard.
 fn shard_start(search: &Search, shard: u32) -> u32 {
     let delays = search
         .max_delay
@@ -184,7 +184,8 @@ fn agrees(
     Ok(counts && book.kept() == wanted.as_slice())
 }
 
-// Whether a shard of a search does, where the bytes are fed in pieces of these lengths.
+// Whether a shard of a search finds the direct candidates of its delays, if the bytes are fed in pieces of these
+// lengths.
 fn shard_agrees(
     alloc: Global,
     observation: &Observation,
@@ -203,7 +204,7 @@ fn shard_agrees(
     }
 }
 
-// Whether all shards do.
+// Whether all shards of a search find the direct candidates of their delays.
 fn all_agree(
     alloc: Global,
     observation: &Observation,
@@ -222,7 +223,7 @@ fn all_agree(
     Ok(true)
 }
 
-// The chunk and the shards, and the lengths of the pieces that are fed, over and over.
+// On each line: the chunk, the number of shards, and the lengths of the pieces that are fed, over and over.
 const CUTS: &str = "
 256 1 | 20000
 1 1 | 1
@@ -240,7 +241,7 @@ pub fn lengths_of(alloc: Global, words: &str) -> Result<Vec<usize>, Memory> {
     Ok(lengths)
 }
 
-// Whether all shards of the search of a line found the direct candidates.
+// Whether all shards of the search of a line find the direct candidates of their delays.
 fn is_direct(
     alloc: Global,
     observation: &Observation,
@@ -269,7 +270,7 @@ fn is_direct(
     )
 }
 
-// The first line of which the search does not find the direct candidates, or why there are none.
+// The first line whose search does not find the direct candidates, or `None`.
 fn first_wrong(alloc: Global) -> Result<Option<&'static str>, Memory> {
     let Some(observed) = observation(alloc, MANY_CHANNELS) else {
         return Ok(Some("no observation"));
@@ -307,7 +308,7 @@ fn folds_among(alloc: Global, candidates: &[Candidate]) -> Option<Vec<Candidate>
     Some(folds)
 }
 
-// The folds of a search of one delay, in two channels, with periods from the least one up to 2.
+// The folds of a search of one delay, in two channels, with periods from `fold_min` up to 2.
 fn folds_of(
     alloc: Global,
     observation: &Observation,
@@ -334,7 +335,7 @@ fn folds_of(
     }
 }
 
-// Whether these folds are found.
+// Whether a search finds these folds.
 fn has_folds(
     alloc: Global,
     observation: &Observation,
@@ -360,7 +361,7 @@ const fn fold(trial: u32, phase: u32, sum: u32) -> Candidate {
     }
 }
 
-// Whether two rows are folded where the series and the periods have room for them.
+// Whether two rows are folded exactly if the series and the periods have room for them.
 fn are_folded(alloc: Global) -> bool {
     let folds = [fold(0, 0, 4), fold(0, 1, 6), fold(1, 0, 5), fold(1, 1, 5)];
     let bytes = [1, 0, 2, 0, 3, 0, 4, 0];

@@ -12,7 +12,7 @@ excesses base values = map (λ x. x - base) values
 abbrev pub excess_sum : ℕ → List ℕ → ℕ → ℕ → ℕ → ℕ → ℕ
 excess_sum base values p m j phase = capped (fold_sum (excesses base values) p m j phase)
 
--- no such sum of any trial is above a bound, at any of so many phases
+-- no such sum of any trial is above a bound, at any of the first `phases` phases
 abbrev pub ExcessUpTo : ℕ → List ℕ → ℕ → ℕ → ℕ → ℕ → Type 0
 ExcessUpTo base values p m phases bound =
     (j q : ℕ) → j < 2 ^ m → q < phases → excess_sum base values p m j q ≤ bound

@@ -17,7 +17,7 @@ pub record Folding : Type 0 where
 abbrev pub block_of : List ℕ → ℕ → ℕ → ℕ → List ℕ
 block_of series p r b = take (2 ^ r * p) (drop (b * (2 ^ r * p)) series)
 
--- the place of phase q of trial j of block b, where a block has 2^r trials of p phases
+-- the place of phase q of trial j of block b; a block has 2^r trials of p phases
 abbrev pub sum_place : ℕ → ℕ → ℕ → ℕ → ℕ → ℕ
 sum_place p r b j q = (b * 2 ^ r + j) * p + q
 
@@ -31,13 +31,13 @@ pub record AreFolded (p m r : ℕ) (series sums : List ℕ) : Type 0 where
 abbrev pub StandsForSeries : Folding → List ℕ → Type 0
 StandsForSeries f series = AreFolded f.period f.halvings f.level series f.sums
 
--- it was loaded with 2^m rows of p values, and r halvings are done
+-- a folder was loaded with 2^m rows of p values, and r halvings are done
 pub record IsAt (f : Folding) (p m r : ℕ) : Type 0 where
   pub period : f.period ≡ p
   pub halvings : f.halvings ≡ m
   pub level : f.level ≡ r
 
--- it was loaded
+-- a folder was loaded
 abbrev pub IsLoaded : Folding → Type 0
 IsLoaded f = 0 < f.halvings
 

@@ -3,7 +3,8 @@
 use Rattle.std.specs.Prelude.{ℕ, ◌+◌, ◌*◌, ◌/◌, ◌%◌, ◌≡◌, ◌<◌, List, slice_index}
 use Rattle.fdmt_rows.specs.Rows.{wrapping_sum}
 
--- each of the first values of a row is one of `first` and one of `second`, which is turned within itself, added
+-- each of the first values of a row is the sum of one of `first` and one of `second`, which is
+-- turned
 abbrev pub AddsTurnedTo : ℕ → List ℕ → List ℕ → List ℕ → ℕ → ℕ → Type 0
 AddsTurnedTo end out first second p turn = (q : ℕ) → q < end
     → slice_index out q ≡ wrapping_sum (slice_index first q) (slice_index second ((q + turn) % p))

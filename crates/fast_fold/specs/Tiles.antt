@@ -5,17 +5,17 @@ use Rattle.fdmt_rows.specs.Capped.{capped_sum}
 use Rattle.fast_fold.specs.Excess.{excess_sum}
 use Rattle.fast_fold.specs.Merging.{at}
 
--- phase x of trial i, merged of two halves of so many trials each
+-- phase x of trial i, merged of two halves of `half` trials each
 abbrev pub merged_sum : List ℕ → ℕ → ℕ → ℕ → ℕ → ℕ
 merged_sum halves stride half i x =
     capped_sum (at halves stride (i / 2) x) (at halves stride (half + i / 2) (x + (i + 1) / 2))
 
--- the first trials of twice as many, merged of both halves, so many phases of each
+-- the first `trials` trials of a block are merged of both halves, each with `width` phases
 abbrev pub AreMergedTrials : List ℕ → List ℕ → ℕ → ℕ → ℕ → ℕ → Type 0
 AreMergedTrials merged halves stride width half trials =
     (i x : ℕ) → i < trials → x < width → at merged stride i x ≡ merged_sum halves stride half i x
 
--- no sum of the first of these trials is above a bound, at any of so many phases
+-- no sum of the first `trials` merged trials is above a bound, at any of the first `phases` phases
 abbrev pub MergedUpTo : List ℕ → ℕ → ℕ → ℕ → ℕ → ℕ → Type 0
 MergedUpTo halves stride half trials phases bound =
     (i x : ℕ) → i < trials → x < phases → merged_sum halves stride half i x ≤ bound
@@ -36,7 +36,7 @@ pub record AreTrialsOfHalves
   pub second : (j x : ℕ) → j < 2 ^ r → x + 2 ^ r ≤ width
       → at sums stride (2 ^ r + j) x ≡ excess_sum base (drop (2 ^ r * p) values) p r j (start + x)
 
--- no sum of any trial is above a bound, at any of so many phases from `start` on
+-- no sum of any trial is above a bound, at any of the `phases` phases from `start` on
 abbrev pub TrialsUpTo : ℕ → List ℕ → ℕ → ℕ → ℕ → ℕ → ℕ → Type 0
 TrialsUpTo base values p m start phases bound =
     (j x : ℕ) → j < 2 ^ m → x < phases → excess_sum base values p m j (start + x) ≤ bound

@@ -1,4 +1,4 @@
-// A folder: sums of a series, level by level.
+// Folds a series by halves, level by level.
 ghost use Rattle.std.specs.Prelude.{◌≡◌, ℕ, ◌+◌, ◌-◌, ◌*◌, ◌^◌, ◌<◌, ◌≤◌, List, length, slice_index, IfOk};
 ghost use Rattle.search_model.specs.Folds.{fold_sum};
 ghost use Rattle.fast_fold.specs.Folding.{Folding, IsAt, IsLoaded, HaveSameRoom, StandsForSeries, FoldsSeeRows, block_of};
@@ -13,8 +13,8 @@ use std::alloc::Global;
 use std::marker::Model;
 use std::mem;
 
-/// All trials of a period over rows of a series. A level is one halving: at level r each block of
-/// 2^r neighbouring rows has its 2^r trials, in order, each of as many phases as the period has.
+/// The fold sums of all trials of a period over rows of a series. A level is one halving: at level r each block of 2^r
+/// neighbouring rows has 2^r trials, in order, each with as many phases as the period has.
 #[derive(Drop)]
 pub struct Folder {
     longest: u32,
@@ -46,7 +46,7 @@ impl Model for Folder {
 }
 
 impl Folder {
-    /// Takes the memory for periods up to `pmax` and up to `2^mmax` rows.
+    /// Takes the memory for periods of at most `pmax` spectra and for at most `2^mmax` rows.
     pub fn open(alloc: Global, pmax: u32, mmax: u32) -> Result<Folder, Memory>
         requires some_phases { 1 ≤ pmax }
         requires some_halvings { 1 ≤ mmax }
@@ -69,7 +69,7 @@ impl Folder {
         })
     }
 
-    /// Takes the first `2^m` rows of `p` values of a series. The level is then 0.
+    /// Loads the first `2^m` rows of `p` values of a series. The level is then 0.
     pub fn load(&mut self, series: &[u32], p: u32, m: u32)
         requires some_phases { 1 ≤ p }
         requires short { p ≤ self.old.longest }
@@ -110,8 +110,8 @@ impl Folder {
         self.level += 1;
     }
 
-    /// The greatest sum of all trials of the first `2^m` rows of `p` values of a series, of what each value has above a
-    /// base; 65535 where it is greater. What was loaded stays.
+    /// The greatest fold sum of how far the values lie above `base`, over all trials of the first `2^m` rows of `p`
+    /// values of a series; 65535 if it is greater. What was loaded stays.
     pub fn greatest_excess(&mut self, series: &[u32], base: u32, p: u32, m: u32) -> u32
         requires some_phases { 1 ≤ p }
         requires some_halvings { 1 ≤ m }
@@ -132,7 +132,7 @@ impl Folder {
         )
     }
 
-    /// How many halvings were made since the last `load`.
+    /// The level: the number of halvings since the last `load`.
     pub fn level(&self) -> u32
         requires { IsLoaded self.now }
         ensures { result ≡ self.now.level }
@@ -140,8 +140,8 @@ impl Folder {
         self.level
     }
 
-    /// The sums of trial `j` of a block, one a phase. At level r of m there are `2^(m - r)` blocks,
-    /// in the order of the series.
+    /// The sums of trial `j` of a block, one for each phase. At level r of m there are `2^(m - r)` blocks, in the order
+    /// of the series.
     pub fn profile(&self, block: u32, j: u32) -> &[u32]
         requires loaded { IsLoaded self.now }
         requires block { block < 2 ^ (self.now.halvings - self.now.level) }
@@ -158,7 +158,7 @@ impl Folder {
     }
 }
 
-// The values of a row.
+// The values of row `row`.
 fn row_of(table: &[u32], row: usize, period: usize) -> &[u32]
     requires { (row + 1) * period ≤ length table.now }
     ensures long { length result.now ≡ period }
@@ -169,12 +169,12 @@ fn row_of(table: &[u32], row: usize, period: usize) -> &[u32]
     &table[start..start + period]
 }
 
-/// A block that begins the series has the fold sums of the series itself.
+/// Law: a block that begins the series has the fold sums of the series itself.
 pub fn folds_see_rows()
     ensures { FoldsSeeRows }
 {}
 
-// Copies the first values of a series.
+// Copies the first `size` values of a series.
 fn copy_front(out: &mut [u32], series: &[u32], size: usize)
     requires room { size ≤ length out.old }
     requires long { size ≤ length series.now }

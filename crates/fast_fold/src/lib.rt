@@ -1,4 +1,5 @@
 //! Folding by halves: all trials of a period over 2^m rows, in m passes over the rows.
+//!
 //! Source: Staelin, Proc. IEEE 57:724, 1969.
 #![tactic(auto)]
 

@@ -1,4 +1,4 @@
-// Rows of sums, merged.
+// Merges rows of fold sums.
 ghost use Rattle.std.specs.Prelude.{◌≡◌, ◌+◌, ◌*◌, ◌%◌, ◌^◌, ◌<◌, ◌≤◌, length, slice_index, drop};
 ghost use Rattle.fdmt_rows.specs.Rows.{wrapping_sum};
 ghost use Rattle.fdmt_rows.specs.Writes.{Writes};
@@ -6,10 +6,11 @@ ghost use Rattle.fast_fold.specs.Merging.{AddsTurned, IsMerged, AreMerged};
 
 use fdmt_rows::add_rows;
 
-// So many phases of two trials are made at a time, so that what both read is still at hand for the second.
+// How many phases of two trials are made at a time. With so few, what both read is still in the cache for the second.
 const PIECE: usize = 512;
 
-// Adds a part of a row and of another that is turned within itself: its value at `q + turn` goes to place `q`.
+// Adds two rows at the places from `from` up to `end`. The second row is turned: its value at `q + turn` is added at
+// `q`.
 fn add_turned(out: &mut [u32], first: &[u32], second: &[u32], turn: usize, from: usize, end: usize)
     requires first { length first.now ≡ length out.old }
     requires second { length second.now ≡ length out.old }
@@ -34,7 +35,7 @@ fn add_turned(out: &mut [u32], first: &[u32], second: &[u32], turn: usize, from:
     );
 }
 
-// Adds two rows twice; in `odd` the second is turned one phase more than in `even`.
+// Adds two rows twice. In `odd` the second row is turned by one phase more than in `even`.
 fn add_twice(even: &mut [u32], odd: &mut [u32], first: &[u32], second: &[u32], turn: usize)
     requires phases { 0 < length even.old }
     requires same { length odd.old ≡ length even.old }
@@ -68,7 +69,7 @@ fn merge_pair(pair: &mut [u32], first: &[u32], second: &[u32], turn: usize)
     add_twice(even, odd, first, second, turn);
 }
 
-// Merges a block of its halves, each of which has `rows` trials of `period` phases.
+// Merges both halves of a block, each of which has `rows` trials of `period` phases.
 fn merge_block(out: &mut [u32], halves: &[u32], period: usize, rows: usize)
     requires phases { 0 < period }
     requires size { 2 * rows * period ≡ length out.old }

@@ -1,5 +1,5 @@
-// The greatest sum of all trials of a period, by halves, some phases of all trials at a time: so few that the rows of a
-// tile stay in the first cache. The last halving is not stored.
+// Finds the greatest fold sum of all trials of a period by halves. It takes a tile at a time, some phases of all
+// trials, so few that the rows stay in the first cache. The sums of the last halving are not stored.
 ghost use Rattle.std.specs.Prelude.{◌≡◌, ℕ, ◌+◌, ◌-◌, ◌*◌, ◌%◌, ◌^◌, ◌<◌, ◌≤◌, length, slice_index};
 ghost use Rattle.fdmt_rows.specs.Capped.{capped_sum, AreRaised};
 ghost use Rattle.fdmt_rows.specs.Excess.{excess};
@@ -10,16 +10,16 @@ use crate::powers::power;
 use fdmt_rows::{LANES, add_capped_rows, greatest_lane, raise_to_sums, write_excess};
 use std::simd::prelude::*;
 
-/// The most halvings of a tile.
+/// The maximum number of halvings of a tile.
 pub const MOST_HALVINGS: u32 = 8;
 
-// The most steps over the phases of a tile.
+// The maximum number of steps over the phases of a tile.
 const MOST_STEPS: usize = 24;
 
-/// The longest row of a tile: that of the most steps and the most halvings.
+/// The longest row of a tile: with the most steps and the most halvings.
 pub const LONGEST_ROW: usize = 784;
 
-// Some phases of a period, from `start` on. A row has `stride` places, the first `16 * steps` of which are added.
+// Some phases of a period, from `start` on. A row has `stride` places; the first `16 * steps` of them are added.
 #[derive(Clone, Copy)]
 struct Tile {
     base: u32,
@@ -29,7 +29,7 @@ struct Tile {
     stride: usize,
 }
 
-// Fills a row with what the values of a period have above a base, from a phase on, and round.
+// Fills a row with how far the values of a period lie above `base`, from phase `start` on, round and round.
 fn load_row(out: &mut [u16], values: &[u32], base: u32, start: usize)
     requires start { start < length values.now }
     ensures { (x : ℕ) → x < length out.old → slice_index out.new x
@@ -64,7 +64,7 @@ fn merge_pair(pair: &mut [u16], first: &[u16], second: &[u16], turn: usize, step
     add_capped_rows(odd, first, &second[turn + 1..], steps);
 }
 
-// Merges the trials of both halves, so many of each.
+// Merges the trials of both halves of a block, `half` of each.
 fn merge_halves(out: &mut [u16], halves: &[u16], tile: Tile, half: usize)
     requires size { 2 * half * tile.stride ≡ length out.old }
     requires same { length halves.now ≡ length out.old }
@@ -84,7 +84,7 @@ fn merge_halves(out: &mut [u16], halves: &[u16], tile: Tile, half: usize)
     }
 }
 
-// Folds so many rows of values by halves: 2^level.
+// Folds `rows` rows of values, 2^level, by halves.
 #[cycle(fold)]
 fn fold_rows(
     out: &mut [u16],
@@ -113,7 +113,7 @@ fn fold_rows(
     merge_halves(out, spare, tile, half);
 }
 
-// Folds both halves of twice so many rows of values.
+// Folds two halves of `rows` rows of values each.
 #[cycle(fold)]
 fn fold_halves(
     out: &mut [u16],
@@ -140,7 +140,7 @@ fn fold_halves(
     fold_rows(second, second_spare, lower, tile, level, rows);
 }
 
-// Raises lanes to the sums of the trials that are merged of both halves, so many of each, and stores none of them.
+// Raises lanes to the greatest sums of merging both halves, with `half` trials each. The sums are not stored.
 fn raise_to_merged(most: u16x16, halves: &[u16], tile: Tile, half: usize, steps: usize) -> u16x16
     requires long { length most ≡ 16 }
     requires size { 2 * half * tile.stride ≡ length halves.now }
@@ -170,7 +170,7 @@ fn raise_to_merged(most: u16x16, halves: &[u16], tile: Tile, half: usize, steps:
     raised
 }
 
-// How many steps a tile takes over its phases: so that all tiles of a period take as many.
+// How many steps a tile takes, so that all tiles of a period take as many.
 fn phase_steps(period: usize) -> usize
     ensures some { 1 ≤ result }
     ensures few { result ≤ 24 }
@@ -179,7 +179,8 @@ fn phase_steps(period: usize) -> usize
     period.div_ceil(tiles * LANES).clamp(1, MOST_STEPS)
 }
 
-// Raises lanes to the sums of all trials of twice so many rows of values, at the first phases of a tile.
+// Raises lanes to the greatest sums of all trials of two halves of `rows` rows of values each, at the first phases of a
+// tile.
 fn raise_to_tile(
     most: u16x16,
     out: &mut [u16],
@@ -206,7 +207,8 @@ fn raise_to_tile(
     raise_to_merged(most, out, tile, rows, steps)
 }
 
-/// The greatest sum of all trials of `2^halvings` rows of a period, of what the values have above a base.
+/// The greatest fold sum of how far the values lie above `base`, over all trials of `2^halvings` rows of a period;
+/// 65535 if it is greater.
 pub fn greatest_excess(
     out: &mut [u16],
     spare: &mut [u16],

@@ -58,7 +58,7 @@ pub record IsOpened (c : Carrying) (plan : BandPlan) (chunk most max_sample : �
   pub no_tables : c.has_tables ≡ false
   pub not_passing : c.is_passing ≡ false
 
--- so many spectra were fed
+-- `spectra` spectra were fed
 pub record IsFed (before after : Carrying) (spectra : ℕ) : Type 0 where
   pub tables : after.tables ≡ before.tables
   pub max_sample : after.max_sample ≡ before.max_sample
@@ -66,7 +66,7 @@ pub record IsFed (before after : Carrying) (spectra : ℕ) : Type 0 where
   pub last : after.last ≡ spectra
   pub not_passing : after.is_passing ≡ false
 
--- a pass over so many spectra has begun
+-- a pass over `spectra` spectra has begun
 pub record IsBegun (before after : Carrying) (spectra : ℕ) : Type 0 where
   pub tables : after.tables ≡ before.tables
   pub max_sample : after.max_sample ≡ before.max_sample
@@ -86,7 +86,7 @@ pub record IsRowOn (before after : Carrying) : Type 0 where
   pub passing : after.is_passing ≡ true
   pub next : after.next ≡ before.next + 1
 
--- it has come to all that the next row is made of
+-- a pass has made all that the next row is made of
 pub record IsReached (before after : Carrying) : Type 0 where
   pub tables : after.tables ≡ before.tables
   pub max_sample : after.max_sample ≡ before.max_sample
@@ -106,14 +106,14 @@ abbrev pub AreNext : Carrying → Filterbank → List ℕ → ℕ → Type 0
 AreNext c f rows spectra = (channel i : ℕ) → channel < f.channels → i < spectra →
     slice_index rows (channel * c.tables.chunk + i) ≡ f.value channel (c.fed + i)
 
--- Samples are there for so many spectra, those of two channels a chunk apart. The last channel's may
--- be no more, so that samples can be lent from some spectrum on.
+-- The list has `spectra` samples of each channel, whose first ones are a chunk apart. It may end
+-- with the last sample used, so a list that begins at a later spectrum can be lent.
 abbrev pub AreThere : Carrying → List ℕ → ℕ → Type 0
 AreThere c samples spectra = channels_of c.tables.plan.edges * c.tables.chunk
     ≤ length samples + (c.tables.chunk - spectra)
 
--- The carry was fed the first spectra of a stream: `c.fed` of them, whatever the others are. What
--- is kept is of these, and so are the rows of all nodes where their tables stand.
+-- The carry was fed the first `c.fed` spectra of a stream, whatever the others are. What is kept is
+-- of these spectra, and so are the rows of all nodes if they stand.
 pub record StandsForSamples (c : Carrying) (f : Filterbank) : Type 0 where
   pub stream : IsStream c.tables.plan c.max_sample f
   pub small : AreAtMost f c.fed c.limit
@@ -121,8 +121,8 @@ pub record StandsForSamples (c : Carrying) (f : Filterbank) : Type 0 where
   pub kept : AreKept c.tables c.pass f c.fed c.stores
   pub nodes : c.has_tables ≡ true → TablesStand c.tables f (c.fed - c.last) c.last c.stores
 
--- The same amid a pass over its next spectra, which has come to the row of the whole band of delay
--- `c.next`.
+-- The carry was fed the first `c.fed` spectra of a stream, and is in the middle of a pass over the
+-- next ones, which has come to the row of the whole band of delay `c.next`.
 pub record StandsMidway (c : Carrying) (f : Filterbank) : Type 0 where
   pub stream : IsStream c.tables.plan c.max_sample f
   pub small : AreAtMost f (c.fed + c.last) c.limit

@@ -5,16 +5,16 @@ use Rattle.row_model.specs.declared.Merge.{Merge}
 use Rattle.row_model.specs.declared.Source.{Source}
 use Rattle.row_model.specs.declared.Source.TheVariants.{Sum}
 
--- nothing is kept of the first rows, so many
+-- nothing is kept of the rows 0..count
 abbrev pub KeepNothing : List ℕ → ℕ → Type 0
 KeepNothing tails count = (r : ℕ) → r < count → slice_index tails r ≡ 0
 
--- neither row that is added is one of the first rows, so many
+-- neither row that is added is one of the rows 0..count
 pub record AreLater (count : ℕ) (m : Merge) : Type 0 where
   pub upper : count ≤ m.upper
   pub lower : count ≤ m.lower
 
--- a row is not made of one of them
+-- a row is made of none of the rows 0..count
 abbrev pub IsMadeOfLater : Source → ℕ → Type 0
 IsMadeOfLater source count = (m : Merge) → source ≡ Sum m → AreLater count m
 

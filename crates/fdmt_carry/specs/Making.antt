@@ -43,13 +43,13 @@ Fills t pass spectra samples old new = (f : Filterbank) (m u : ℕ) →
     AreTaken t pass f m u spectra samples → AreKept t pass f u old →
     AreFilled t pass f u spectra new
 
--- a pass goes on from so many orders to so many
+-- a pass carries out its orders from `from` up to, but without, `to`
 abbrev pub CarriesOut : Tables → Passing → ℕ → ℕ → ℕ → List ℕ → Stores → Stores → Type 0
 CarriesOut t pass from to spectra samples old new = (f : Filterbank) (m u : ℕ) →
     AreTaken t pass f m u spectra samples → HasDone t pass f u spectra from old →
     HasDone t pass f u spectra to new
 
--- the row of delay d of the whole band stands then
+-- a pass goes on from order `from`, and then the row of delay d of the whole band stands
 abbrev pub MakesBandRow : Tables → Passing → ℕ → ℕ → ℕ → List ℕ → Stores → Stores → Type 0
 MakesBandRow t pass d from spectra samples old new = (f : Filterbank) (m u : ℕ) →
     AreTaken t pass f m u spectra samples → HasDone t pass f u spectra from old →
@@ -60,7 +60,7 @@ abbrev pub KeepsFor : Tables → Passing → Passing → Stores → Stores → T
 KeepsFor t pass next old new = (f : Filterbank) (m u : ℕ) → AreFit t next f m u →
     AreKept t pass f u old → AreKept t next f u new
 
--- where no sample is above m, no sum passes 32 bits
+-- if no sample is above m, every sum fits into 32 bits
 abbrev pub SumsFit : Tables → ℕ → Type 0
 SumsFit t m = m * (channels_of t.plan.edges + t.plan.last) < 2 ^ 32
 
@@ -80,7 +80,7 @@ pub record CanLeaveOut (t : Tables) (pass : Passing) (d done : ℕ) : Type 0 whe
   pub shows : ShowsRow t pass d done
   pub last : pass.can_leave_out ≡ true
 
--- the sums of two halves are the path sums of delay d, where the next order makes its row of them
+-- the sums of two halves are the path sums of delay d, if the next order adds these halves
 abbrev pub AddUpToRow : Tables → Passing → ℕ → ℕ → ℕ → Stores → Halves → Type 0
 AddUpToRow t pass d done spectra st halves = (f : Filterbank) (m u k : ℕ) →
     AreFit t pass f m (u + spectra) → HasDone t pass f u spectra done st → k < spectra →

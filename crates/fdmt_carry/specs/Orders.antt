@@ -18,7 +18,7 @@ start_of rows k = slice_index rows.starts.items k
 abbrev pub band_row : BandPlan → PlanRows → ℕ → ℕ
 band_row p rows d = row_at (nodes_of p) rows.starts.items 0 d
 
--- how many rows come before row r of node k, where the nodes are taken from the last to the first
+-- how many rows come before row r of node k in the plain order, from the last node to the first
 unfoldable pub place_of : PlanRows → ℕ → ℕ → ℕ
 place_of rows k r = all_rows rows - start_of rows (k + 1) + (r - start_of rows k)
 
@@ -38,20 +38,21 @@ pub record ArePlain (p : BandPlan) (rows : PlanRows) (orders : List Order) : Typ
       order_at orders (place_of rows k r) ≡ in_own_slot r
   pub own : (r : ℕ) → r < all_rows rows → holds orders (length orders) r ≡ Some r
 
--- each of its rows can be made after those before it, and all are
+-- in this order each row can be made after those before it, and all rows are made
 pub record IsPlainlyMade (rows : PlanRows) (orders : List Order) : Type 0 where
   pub in_order : (narrow slots : List Bool) → AreWide narrow → AreWide slots →
       all_rows rows ≤ length slots → AreInOrder rows.rows narrow slots orders
   pub all : (r : ℕ) → r < all_rows rows → is_made orders (length orders) r ≡ true
 
--- where to stop after stop i: at the order that makes row r
+-- the last order before stop i + 1 makes row r
 pub record IsStop (orders : List Order) (stops : List ℕ) (i r : ℕ) : Type 0 where
   pub rise : slice_index stops i < slice_index stops (i + 1)
   pub within : slice_index stops (i + 1) ≤ length orders
   pub shown : (order_at orders (slice_index stops (i + 1) - 1)).row ≡ r
 
--- Where to stop in the orders: before the first, after that which makes the row of the whole band
--- of the first delay, and so on. The one that makes the row of the last delay is the last of all.
+-- Stop 0 is before the first order, and each further stop is after the order that makes the next
+-- row of the whole band, by rising delay. The row of the last delay is made by the last order of
+-- all.
 pub record AreStops (p : BandPlan) (rows : PlanRows) (orders : List Order) (stops : List ℕ) :
     Type 0 where
   pub entries : length stops ≡ p.last - p.first + 2
@@ -60,14 +61,14 @@ pub record AreStops (p : BandPlan) (rows : PlanRows) (orders : List Order) (stop
   pub each : (i : ℕ) → i ≤ p.last - p.first →
       IsStop orders stops i (band_row p rows (p.first + i))
 
--- no sum of row r passes 16 bits where no sample is above m
+-- if no sample is above m, every sum of row r fits into 16 bits
 abbrev pub IsLow : BandPlan → PlanRows → ℕ → ℕ → Type 0
 IsLow p rows r m = m * cells_of p rows r < 2 ^ 16
 
--- so it is with all rows of 16 bits
+-- if no sample is above m, every sum of all narrow rows fits into 16 bits
 abbrev pub AreLow : BandPlan → PlanRows → List Bool → ℕ → Type 0
 AreLow p rows narrow m = (r : ℕ) → is_narrow narrow r ≡ true → IsLow p rows r m
 
--- none of them is one of the whole band
+-- no narrow row is a row of the whole band
 abbrev pub AreParts : PlanRows → List Bool → Type 0
 AreParts rows narrow = (r : ℕ) → is_narrow narrow r ≡ true → node_of rows r ≢ 0

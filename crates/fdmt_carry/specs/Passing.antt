@@ -14,9 +14,9 @@ abbrev pub BandRowsAreLast : BandPlan → PlanRows → Type 0
 BandRowsAreLast p rows = (d : ℕ) → p.first ≤ d → d ≤ p.last →
     IsLast rows.rows (band_row p rows d)
 
--- A pass makes the rows of a plan, of up to `chunk` spectra, while no sample is above m. Stop i + 1
--- is how many orders it has come past once it is past row i of the whole band. It can leave such a
--- row out only where no row is made of one and nothing is kept of one.
+-- A pass makes the rows of a plan over up to `chunk` spectra, if no sample is above m. Stop i + 1
+-- is the number of orders that are carried out once row i of the whole band is made. The pass can
+-- leave out rows of the whole band only if no row is made of such a row and nothing is kept of it.
 pub record IsPass (p : BandPlan) (rows : PlanRows) (chunk m : ℕ) (pass : Passing) : Type 0 where
   pub runs : IsScheduled p rows chunk chunk pass.schedule
   pub parts : AreParts rows pass.schedule.narrow
@@ -24,12 +24,12 @@ pub record IsPass (p : BandPlan) (rows : PlanRows) (chunk m : ℕ) (pass : Passi
   pub stops : AreStops p rows pass.schedule.orders pass.stops.items
   pub last : pass.can_leave_out ≡ true → BandRowsAreLast p rows
 
--- one for these tables
+-- a pass over the rows of these tables
 abbrev pub IsPassOf : Tables → ℕ → Passing → Type 0
 IsPassOf t m pass = IsPass t.plan t.rows t.chunk m pass
 
--- how many of its orders were carried out when it comes to the row of delay d of the whole band, which is made by those
--- that follow, up to the next stop
+-- how many orders of a pass are carried out before those that make the row of delay d of the whole
+-- band
 abbrev pub stop_at : Tables → Passing → ℕ → ℕ
 stop_at t pass d = slice_index pass.stops.items (d - t.plan.first)
 
@@ -37,14 +37,14 @@ stop_at t pass d = slice_index pass.stops.items (d - t.plan.first)
 abbrev pub AreKept : Tables → Passing → Filterbank → ℕ → Stores → Type 0
 AreKept t pass f u st = Kept t.rows.rows pass.schedule.narrow (table_sums t f) u st
 
--- so many orders of a pass were carried out
+-- the first `done` orders of a pass were carried out
 abbrev pub HasDone : Tables → Passing → Filterbank → ℕ → ℕ → ℕ → Stores → Type 0
 HasDone t pass f u spectra done st =
     Running t.rows.rows pass.schedule (table_sums t f) u spectra done st
 
--- So many are, where a pass has come to the row of delay d of the whole band: those before the stop
--- before this row, and maybe some of those after it, but not the one that makes the row. Past the
--- row of the last delay, all are.
+-- A pass that has carried out `done` orders has come to the row of delay d of the whole band: past
+-- the stop before this row, but not past the order that makes it. After the row of the last delay
+-- all orders are carried out.
 pub record IsBefore (t : Tables) (pass : Passing) (d done : ℕ) : Type 0 where
   pub from : stop_at t pass d ≤ done
   pub to : d ≤ t.plan.last → done < stop_at t pass (d + 1)

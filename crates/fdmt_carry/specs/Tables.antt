@@ -17,8 +17,8 @@ use Rattle.subband_plan.specs.Rows.{ArePlanRows, all_rows}
 use Rattle.subband_plan.specs.Values.{row_sum}
 use Rattle.fdmt_carry.specs.Orders.{ArePlain, start_of}
 
--- The tables of a plan, for up to `chunk` spectra at a time, and up to `most` where the rows of all
--- nodes are made, each at a place of its own.
+-- The rows of a plan, for passes over up to `chunk` spectra, and for calls over up to `most`
+-- spectra that make the rows of all nodes, each at a place of its own.
 pub record Tables : Type 0 where
   pub plan : BandPlan
   pub chunk : ℕ
@@ -40,8 +40,8 @@ node_count t = length (nodes_of t.plan)
 abbrev pub table_sums : Tables → Filterbank → Sums
 table_sums t f = row_sum t.plan t.rows f
 
--- a schedule for the rows of a plan, and up to `most` spectra, of which the samples of two channels
--- are `chunk` places apart
+-- a schedule for the rows of a plan over up to `most` spectra; the samples of a channel begin
+-- `chunk` places after those of the one before
 pub record IsScheduled (p : BandPlan) (rows : PlanRows) (chunk most : ℕ) (s : Scheduled) :
     Type 0 where
   pub follows : Follows rows.rows s
@@ -49,7 +49,7 @@ pub record IsScheduled (p : BandPlan) (rows : PlanRows) (chunk most : ℕ) (s : 
   pub chunk_is : s.chunk ≡ chunk
   pub most_is : s.most ≡ most
 
--- it makes them in the plain order, in 32 bits
+-- a schedule that makes the rows of a plan in the plain order, in 32 bits
 pub record IsPlain (p : BandPlan) (rows : PlanRows) (chunk most : ℕ) (s : Scheduled) : Type 0 where
   pub runs : IsScheduled p rows chunk most s
   pub narrow : s.narrow ≡ replicate (all_rows rows) false
@@ -67,7 +67,7 @@ abbrev pub AreSamples : Tables → Filterbank → ℕ → ℕ → List ℕ → T
 AreSamples t f u spectra samples =
     AreNext f.value (channels_of t.plan.edges) t.chunk u spectra samples
 
--- the sums of some rows stand, from row `from` on, at so many spectra from spectrum u on
+-- the rows from number `from` on stand: their `spectra` values that end at spectrum u and after it
 abbrev pub RowsStand : Tables → ℕ → Sums → ℕ → ℕ → List ℕ → Type 0
 RowsStand t from y u spectra wide = (r : ℕ) → from ≤ r → r < all_rows t.rows →
     StandsAtPlace t.most y u spectra wide r
@@ -76,13 +76,14 @@ RowsStand t from y u spectra wide = (r : ℕ) → from ≤ r → r < all_rows t.
 abbrev pub TablesStand : Tables → Filterbank → ℕ → ℕ → Stores → Type 0
 TablesStand t f u spectra st = RowsStand t 0 (table_sums t f) u spectra st.wide
 
--- the rows of all nodes are made of the next spectra, where what is kept of narrow ones has 16 bits
+-- the rows of all nodes are made over the next spectra, from what is kept of all rows, narrow ones
+-- in 16 bits
 abbrev pub MakesTables : Tables → List Bool → ℕ → List ℕ → Stores → Stores → Type 0
 MakesTables t narrow spectra samples old new = (x : ℕ → ℕ → ℕ) (y : Sums) (u : ℕ) →
     AreGiven t.rows.rows narrow x y u t.chunk spectra samples old →
     RowsStand t 0 y u spectra new.wide
 
--- and so are those of node k, where those of the nodes after it stand
+-- the rows of node k are made over the next spectra, if those of the nodes after it stand
 abbrev pub MakesNode : Tables → List Bool → ℕ → ℕ → List ℕ → Stores → Stores → Type 0
 MakesNode t narrow k spectra samples old new = (x : ℕ → ℕ → ℕ) (y : Sums) (u : ℕ) →
     AreGiven t.rows.rows narrow x y u t.chunk spectra samples old →

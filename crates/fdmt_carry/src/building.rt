@@ -1,4 +1,4 @@
-// A schedule of orders, all of which are checked.
+// Builds a schedule from orders, each of which is checked.
 ghost use Rattle.std.specs.Prelude.{◌≤◌, ◌<◌, ◌≢◌, IfOk, IfSome, None};
 ghost use Rattle.row_model.specs.Tails.{AreRows};
 ghost use Rattle.row_schedule.specs.Orders.{AreInOrder, MakeAll};
@@ -10,9 +10,9 @@ use row_model::Rows;
 use row_schedule::{Builder, Order, Schedule};
 use std::alloc::Global;
 
-/// A schedule of these orders, for so many channels and up to `most` spectra, of which the samples of two channels are
-/// `chunk` places apart. There is none where they can't be carried out one after another, or leave out a row of which
-/// something is kept.
+/// A schedule of `orders`, for `channels` channels and at most `most` spectra at a time. The samples of a channel begin
+/// `chunk` places after those of the channel before. `None` if the orders can't be carried out one after another, or if
+/// they don't make a row of which something is kept.
 pub fn schedule_of(
     alloc: Global,
     rows: &Rows,

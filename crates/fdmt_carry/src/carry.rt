@@ -1,4 +1,4 @@
-// Tables that are carried from chunk to chunk.
+// Rows that are carried from chunk to chunk.
 ghost use Rattle.std.specs.Prelude.{◌≡◌, ℕ, ◌+◌, ◌-◌, ◌*◌, ◌^◌, ◌<◌, ◌≤◌, true, false, length, slice_index, None, IfOk, IfSome};
 ghost use Rattle.band_paths.specs.Edges.{channels_of};
 ghost use Rattle.row_schedule.specs.Halves.{HaveLength, half_sum};
@@ -23,16 +23,17 @@ use std::marker::Model;
 use std::mem;
 use subband_plan::{Plan, plans_are_laid, rows_begin_empty};
 
-/// The tables of a plan over a stream of spectra that is fed chunk by chunk. Of each row are kept between two calls as
-/// many values as later spectra need, or some more.
+/// The rows of a plan, over a stream of spectra that is fed chunk by chunk. Between two calls it keeps as many of the
+/// last values of each row as later spectra need, or some more.
 ///
-/// `feed` and `take` make the rows of all nodes, which then stand. In a pass only the rows of the whole band can be
-/// read, as they are made, one after another by their delays: `begin`, `make_row` or `make_reaching_row` for each
-/// delay, with `made` to read a row that was made, and `finish`. In place of `make_reaching_row` there is also
-/// `reach_row`, which makes all that the row of a delay is made of; then `halves`, and `make_row` or `leave_out`.
+/// `feed` and `take` make the rows of all nodes, and `table` reads them. A pass makes the rows of the whole band one
+/// after another, by rising delay, and each can be read only once it is made: `begin`, then `make_row` or
+/// `make_reaching_row` for each delay, and `finish`; `made` reads the row that was made last. In place of
+/// `make_reaching_row`, `reach_row` makes all that a row is made of; then `halves` lends the two rows of which it is
+/// the sum, and `make_row` makes it or `leave_out` leaves it out.
 ///
-/// A pass for small samples serves until a greater sample comes, and then one for all samples. No clause says which
-/// rows have 16 bits.
+/// The rows of a pass have 16 bits if the samples so far allow it. Once a greater sample comes, a pass for all samples
+/// takes over. No clause says which rows have 16 bits.
 #[derive(Drop)]
 pub struct Carry {
     tables: Tables,
@@ -62,7 +63,7 @@ impl Model for Carry {
 }
 
 impl Carry {
-    /// Takes the memory for calls of up to `chunk` spectra of samples up to `max_sample`.
+    /// Takes the memory for calls of at most `chunk` spectra, with samples up to `max_sample`.
     pub fn open(alloc: Global, plan: Plan, chunk: u32, max_sample: u32) -> Result<Carry, Memory>
         requires some { 1 ≤ chunk }
         requires most { chunk ≤ 65536 }
@@ -74,8 +75,8 @@ impl Carry {
         Carry::open_passing(alloc, plan, chunk, chunk, max_sample)
     }
 
-    /// Takes the memory for passes over up to `chunk` spectra of samples up to `max_sample`, and for calls that make
-    /// the tables of all nodes of up to `most` spectra.
+    /// Takes the memory for passes over at most `chunk` spectra and for calls that make the rows of all nodes over at
+    /// most `most` spectra, with samples up to `max_sample`.
     pub fn open_passing(
         alloc: Global,
         plan: Plan,
@@ -114,9 +115,9 @@ impl Carry {
         })
     }
 
-    /// Takes the next spectra: row `c` of `rows` begins at `c * chunk`, with their samples in channel `c`, the highest
-    /// frequency first. The tables of all nodes stand after it. Where the carry was opened by `open`, the spectra may
-    /// be as many as a chunk.
+    /// Takes the next `spectra` spectra, and makes the rows of all nodes. The samples of channel `c`, the highest
+    /// frequency first, begin at place `c * chunk` of `rows`. After `open`, a call can have a whole chunk of spectra;
+    /// after `open_passing`, at most `most`.
     pub fn feed(&mut self, rows: &[u32], spectra: u32)
         requires rows { length rows.now
             ≡ channels_of self.old.tables.plan.edges * self.old.tables.chunk }
@@ -131,8 +132,8 @@ impl Carry {
         self.take(Samples::Words(rows), spectra);
     }
 
-    /// Takes the next spectra as `feed` does: the samples of channel `c`, the highest frequency first, begin at
-    /// `c * chunk`.
+    /// Takes the next `spectra` spectra as `feed` does, with samples of either width. Those of channel `c`, the highest
+    /// frequency first, begin at `c * chunk`.
     pub fn take(&mut self, samples: Samples<'_>, spectra: u32)
         requires rows { AreThere self.old (values_of samples) spectra }
         requires short { spectra ≤ self.old.tables.most }
@@ -147,7 +148,7 @@ impl Carry {
         self.fill(samples, spectra);
     }
 
-    // Takes the next spectra, where no sample is above the limit.
+    // Makes the rows of all nodes over the next spectra. No sample is above the limit.
     fn fill(&mut self, samples: Samples<'_>, spectra: u32)
         requires rows { AreThere self.old (values_of samples) spectra }
         requires short { spectra ≤ self.old.tables.most }
@@ -167,8 +168,8 @@ impl Carry {
         self.has_tables = true;
     }
 
-    /// Begins a pass over the next spectra, so many: the samples of channel `c`, the highest frequency first, begin at
-    /// `c * chunk`. They are only looked at here; each call that makes a row takes them.
+    /// Begins a pass over the next `spectra` spectra. The samples of channel `c`, the highest frequency first, begin at
+    /// `c * chunk`. This call only looks at them: each call that makes a row must be given them again.
     pub fn begin(&mut self, samples: Samples<'_>, spectra: u32)
         requires short { spectra ≤ self.old.tables.chunk }
         requires few { self.old.fed + spectra ≤ 2 ^ 48 }
@@ -181,7 +182,8 @@ impl Carry {
         self.start(spectra);
     }
 
-    // Goes over to the pass for all samples where one of these is above the limit. No tables stand after it.
+    // If a sample is above the limit, goes over to the pass for all samples. The rows of all nodes can't be read after
+    // it.
     fn settle(&mut self, samples: Samples<'_>)
         requires whole { self.old.is_passing ≡ false }
         ensures settled { IsSettled self.old self.new (values_of samples.entry) }
@@ -203,7 +205,7 @@ impl Carry {
         self.limit = self.max_sample;
     }
 
-    // Begins a pass over so many spectra, where no sample is above the limit.
+    // Begins a pass over `spectra` spectra. No sample is above the limit.
     fn start(&mut self, spectra: u32)
         requires short { spectra ≤ self.old.tables.chunk }
         requires few { self.old.fed + spectra ≤ 2 ^ 48 }
@@ -223,8 +225,8 @@ impl Carry {
         self.is_passing = true;
     }
 
-    /// Makes the row of the whole band of the next delay, from the samples of the spectra that the pass goes over:
-    /// those of channel `c`, the highest frequency first, begin at `c * chunk`.
+    /// Makes the row of the whole band of the next delay, over the spectra of the pass. `samples` are those given to
+    /// `begin`.
     pub fn make_row(&mut self, samples: Samples<'_>)
         requires rows { AreThere self.old (values_of samples) self.old.last }
         requires passing { self.old.is_passing ≡ true }
@@ -248,8 +250,8 @@ impl Carry {
         self.next += 1;
     }
 
-    /// Makes all that the row of the next delay is made of, from the same samples, so that `halves` can be asked for
-    /// it. Then `make_row` makes the row, or `leave_out` goes on without it.
+    /// Makes all rows that the row of the next delay is made of, so that `halves` can be asked for it. Then `make_row`
+    /// makes the row, or `leave_out` leaves it out. `samples` are those given to `begin`.
     pub fn reach_row(&mut self, samples: Samples<'_>)
         requires rows { AreThere self.old (values_of samples) self.old.last }
         requires passing { self.old.is_passing ≡ true }
@@ -270,8 +272,8 @@ impl Carry {
         );
     }
 
-    /// The two rows of 16 bits whose sums are the row of the next delay, once all is made that it is made of. There are
-    /// none where it is made of other rows, or where a row of the whole band is needed for another.
+    /// The two rows of 16 bits whose sum is the row of the next delay. `None` if what it is made of was not made yet or
+    /// has other widths, or if rows of the whole band are needed for other rows.
     pub fn halves(&self) -> Option<Halves<'_>>
         requires passing { self.now.is_passing ≡ true }
         requires more { self.now.next ≤ self.now.tables.plan.last }
@@ -292,7 +294,7 @@ impl Carry {
         )
     }
 
-    /// Goes on to the next delay, and leaves out the row of this one, whose halves were there.
+    /// Goes on to the next delay without making the row of this one. `halves` must have answered its two rows.
     pub fn leave_out(&mut self)
         requires passing { self.old.is_passing ≡ true }
         requires leave { CanLeaveOut self.old.tables self.old.pass self.old.next self.old.done }
@@ -304,8 +306,8 @@ impl Carry {
         self.next += 1;
     }
 
-    // Whether no path sum of the next delay reaches `least`, and its row can be left out. It may say no where that
-    // holds.
+    // Whether all path sums of the next delay are below `least`, and its row can be left out. May answer `false` even
+    // if that is so.
     fn is_below(&self, least: u32) -> bool
         requires passing { self.now.is_passing ≡ true }
         requires more { self.now.next ≤ self.now.tables.plan.last }
@@ -321,9 +323,9 @@ impl Carry {
         }
     }
 
-    /// Goes on to the next delay as `make_row` does, but may leave out a row of which no path sum reaches `least`, and
-    /// says whether it made the row. It leaves one out only where both rows that it is made of have 16 bits, and no row
-    /// of the whole band is needed for another.
+    /// Goes on to the next delay as `make_row` does, but may leave the row out if all its path sums are below `least`.
+    /// Answers whether it made the row. A row can be left out only if both rows that it is made of have 16 bits, and no
+    /// row of the whole band is needed for another row.
     pub fn make_reaching_row(&mut self, samples: Samples<'_>, least: u32) -> bool
         requires rows { AreThere self.old (values_of samples) self.old.last }
         requires passing { self.old.is_passing ≡ true }
@@ -347,8 +349,8 @@ impl Carry {
         true
     }
 
-    /// The row of the delay before the next, where it was made: the path sums of that delay that end at the spectra of
-    /// the pass.
+    /// The row that was made last, if `make_row` made it: the path sums of its delay that end at the spectra of the
+    /// pass.
     pub fn made(&self) -> &[u32]
         requires passing { self.now.is_passing ≡ true }
         requires some { self.now.tables.plan.first < self.now.next }
@@ -360,7 +362,7 @@ impl Carry {
         self.tables.made(&self.pass, self.next - 1, &self.stores, self.last as usize)
     }
 
-    /// Ends the pass, which has come past the rows of all delays.
+    /// Ends the pass. It must have come past all delays.
     pub fn finish(&mut self)
         requires passing { self.old.is_passing ≡ true }
         requires all { self.old.next ≡ self.old.tables.plan.last + 1 }
@@ -374,8 +376,8 @@ impl Carry {
         self.is_passing = false;
     }
 
-    /// A whole pass over the next spectra, up to a chunk: the samples of channel `c`, the highest frequency first,
-    /// begin at `c * chunk`. Only what is kept stands after it.
+    /// Makes a whole pass over the next `spectra` spectra, at most a chunk. The samples of channel `c`, the highest
+    /// frequency first, begin at `c * chunk`. No row can be read after it.
     pub fn pass(&mut self, samples: Samples<'_>, spectra: u32)
         requires rows { AreThere self.old (values_of samples) spectra }
         requires short { spectra ≤ self.old.tables.chunk }
@@ -395,35 +397,35 @@ impl Carry {
         self.finish();
     }
 
-    /// How many spectra were taken in all; those of a pass once it has ended.
+    /// How many spectra were taken in all. Those of a pass count once it has ended.
     pub fn fed(&self) -> u64
         ensures { result ≡ self.now.fed }
     {
         self.fed
     }
 
-    /// Whether the tables of all nodes stand.
+    /// Whether the rows of all nodes can be read.
     pub fn has_tables(&self) -> bool
         ensures { result ≡ self.now.has_tables }
     {
         self.has_tables
     }
 
-    /// Of how many spectra a call can make the tables of all nodes at most.
+    /// The maximum number of spectra over which a call can make the rows of all nodes.
     pub fn most(&self) -> u32
         ensures { result ≡ self.now.tables.most }
     {
         self.tables.most()
     }
 
-    /// The plan that it was opened with.
+    /// The plan.
     pub fn plan(&self) -> &Plan
         ensures { result.now ≡ self.now.tables.plan }
     {
         self.tables.plan()
     }
 
-    /// The path sums of delay `d` that end at the spectra of the last call, which made all tables.
+    /// The path sums of delay `d` that end at the spectra of the last call, which made the rows of all nodes.
     pub fn row(&self, d: u32) -> &[u32]
         requires tables { self.now.has_tables ≡ true }
         requires row { HasRow (root self.now.tables.plan) d }
@@ -438,7 +440,8 @@ impl Carry {
         self.table(0, d)
     }
 
-    /// The path sum of delay `d` that ends at spectrum `k` of the last call, counted from 0. That call made all tables.
+    /// The path sum of delay `d` that ends at spectrum `k` of the last call, counted from 0. That call made the rows of
+    /// all nodes.
     pub fn sum(&self, d: u32, k: u32) -> u32
         requires tables { self.now.has_tables ≡ true }
         requires row { HasRow (root self.now.tables.plan) d }
@@ -449,8 +452,8 @@ impl Carry {
         self.row(d)[k as usize]
     }
 
-    /// The sums over node `k` of the plan along the path of delay `d`, which end at the spectra of the last call. That
-    /// call made all tables.
+    /// The sums over node `k` of the plan along the path of delay `d` that end at the spectra of the last call. That
+    /// call made the rows of all nodes.
     pub fn table(&self, k: usize, d: u32) -> &[u32]
         requires tables { self.now.has_tables ≡ true }
         requires node { k < node_count self.now.tables }

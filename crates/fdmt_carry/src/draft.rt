@@ -1,8 +1,9 @@
-// An order of rows for which few slots are in use at a time. Nothing rests on it: whoever takes it checks it.
+// Drafts an order of rows for which few slots are in use at a time. Nothing rests on it: whoever takes the draft checks
+// it.
 //
-// The nodes at two depths, and those of one and two channels, have a slot for each of their rows, which are made when
-// the node is opened; then the slots of the nodes below it are given back. Each other node has one slot for each
-// width of its rows, in which a row is made when it is asked for: from one delay to the next, one half of it goes on
+// The nodes at two depths, and those of one and two channels, have a slot for each of their rows. These rows are made
+// when the node is opened; then the slots of the nodes below it are given back. Each other node has one slot for each
+// width of its rows, in which a row is made when it is asked for: from one delay to the next, one of its halves goes on
 // by one row. So the rows of the whole band are made one after another.
 use psr_base::Memory;
 use row_model::Source;
@@ -10,33 +11,35 @@ use row_schedule::Order;
 use std::alloc::Global;
 use subband_plan::{Node, PlanRows};
 
-// No slot and no row has this number.
+// Stands for no slot and no row.
 const NONE: u32 = u32::MAX;
 
-// Nodes at these depths have a slot for each row, so that the rows below a node at one of them, and those between both,
-// mostly stay in the second cache.
+// The depths at which nodes have a slot for each row. With these the rows below such a node mostly stay in the second
+// cache.
 const TABLE_DEPTHS: [u32; 2] = [4, 7];
 
-// The same where nodes have many rows of 32 bits.
+// The depths at which nodes have a slot for each row, if nodes have many rows of 32 bits.
 const DEEP_TABLE_DEPTHS: [u32; 2] = [5, 8];
 
-// Nodes have many rows where the last row of the band has this delay or a longer one.
+// Nodes have many rows if the greatest delay of the band is at least this.
 const MANY_ROWS_FROM: u32 = 4096;
 
 // How often a band of 4096 channels is halved.
 const DEEPEST: u32 = 12;
 
-/// An order of rows, whether each slot is for rows of 16 bits, and the stops: 0, and how many orders there are once
-/// each row of the whole band is made.
+/// A draft of a pass.
 #[derive(Drop)]
 pub struct Draft {
+    /// The orders, in the order in which they are carried out.
     pub orders: Vec<Order>,
+    /// For each slot, whether its rows have 16 bits.
     pub slots: Vec<bool>,
+    /// The stops: 0, and for each row of the whole band the number of orders that are carried out once it is made.
     pub stops: Vec<usize>,
 }
 
 impl Draft {
-    /// The order for the rows of a plan's nodes, of which `narrow` says whether they have 16 bits.
+    /// Drafts the orders for the rows of these nodes. `narrow` tells which rows have 16 bits.
     pub fn of(
         alloc: Global,
         nodes: &[Node],
@@ -75,7 +78,7 @@ impl Tree<'_> {
         self.narrow.get(r as usize) == Some(&true)
     }
 
-    // At which depths nodes have a slot for each row.
+    // The depths at which nodes have a slot for each row.
     fn table_depths(&self) -> [u32; 2] {
         match self.nodes.first() {
             Some(band) if band.last_row >= MANY_ROWS_FROM && !self.has_narrow_rows() => {
@@ -85,8 +88,8 @@ impl Tree<'_> {
         }
     }
 
-    // Whether all rows of nodes at the first of the usual depths have 16 bits. It looks at the longest of them, the last
-    // row of the node of the lowest frequencies.
+    // Whether all rows of the nodes at the first of the usual depths have 16 bits. It looks at the longest of them: the
+    // last row of the node of the lowest frequencies.
     fn has_narrow_rows(&self) -> bool {
         let mut k = 0_usize;
         for _ in 0..TABLE_DEPTHS[0] {
@@ -109,14 +112,14 @@ impl Tree<'_> {
     }
 }
 
-// The slots of one width, of which the first ones are in use.
+// The slots of one width. The first ones are in use.
 #[derive(Drop)]
 struct Stack {
     slots: Vec<u32>,
     used: usize,
 }
 
-// An order so far: the slot of each row, and the row that each slot has.
+// A draft that is being made: the slot of each row, and the row in each slot.
 #[derive(Drop)]
 struct Drafting {
     draft: Draft,
@@ -153,8 +156,8 @@ impl Drafting {
         self.draft
     }
 
-    // Gives slots to the rows of node `k`, opens the nodes below it, and makes its rows where each has a slot. Rows
-    // past delay 0 of a single channel are there only where they are asked for.
+    // Gives slots to the rows of node `k`, opens the nodes below it, and makes its rows if each has a slot. Rows of a
+    // single channel past delay 0 are made only if `asked`.
     fn open_node(
         &mut self,
         tree: &Tree<'_>,
@@ -189,7 +192,7 @@ impl Drafting {
         Ok(())
     }
 
-    // Gives a slot to each of these rows, or one to all that follow one another and are of one width.
+    // Gives a slot to each of these rows; or, unless `each`, one slot to all neighbouring rows of one width.
     fn give_slots(
         &mut self,
         tree: &Tree<'_>,
@@ -225,7 +228,7 @@ impl Drafting {
         at(&self.row_in, at(&self.slot_of, r)) == r
     }
 
-    // Makes these rows, one after another, where they don't stand.
+    // Makes these rows one after another, unless they stand.
     fn need_all(&mut self, tree: &Tree<'_>, first: u32, end: u32) -> Result<(), Memory> {
         for r in first..end {
             self.need(tree, r, DEEPEST + 1)?;
@@ -233,7 +236,7 @@ impl Drafting {
         Ok(())
     }
 
-    // Makes row `r` where it doesn't stand, after those that it is made of; these are `levels` deep at most.
+    // Makes row `r`, unless it stands, after the rows that it is made of; these are at most `levels` deep.
     fn need(&mut self, tree: &Tree<'_>, r: u32, levels: u32) -> Result<(), Memory> {
         if levels == 0 || self.has_row(r) {
             return Ok(());
@@ -258,7 +261,7 @@ impl Drafting {
 }
 
 impl Stack {
-    // Takes the next slot into use, a new one where there is none.
+    // Takes the next slot into use, or a new one if all are in use.
     fn take(&mut self, narrow: bool, slots: &mut Vec<bool>) -> Result<u32, Memory> {
         if let Some(slot) = self.slots.get(self.used) {
             let slot = *slot;
@@ -273,17 +276,17 @@ impl Stack {
     }
 }
 
-// The number of the lower half of node `k`, which has so many channels.
+// The number of the lower half of node `k`, which has `channels` channels.
 fn lower_number(k: usize, channels: u32) -> usize {
     k.saturating_add(2 * (channels / 2) as usize)
 }
 
-// A number of a list; past its end there is none.
+// The number at a place, or `NONE` past the end.
 fn at(list: &[u32], place: u32) -> u32 {
     list.get(place as usize).copied().unwrap_or(NONE)
 }
 
-// The same, of a list of counts.
+// The count at a place as a number, or `NONE` past the end.
 fn number_at(list: &[usize], place: usize) -> u32 {
     match list.get(place) {
         Some(number) => u32::try_from(*number).unwrap_or(NONE),
@@ -291,7 +294,7 @@ fn number_at(list: &[usize], place: usize) -> u32 {
     }
 }
 
-// Sets a number of a list; past its end there is none to set.
+// Sets the number at a place. Does nothing past the end.
 fn put(list: &mut [u32], place: u32, number: u32) {
     if let Some(entry) = list.get_mut(place as usize) {
         *entry = number;

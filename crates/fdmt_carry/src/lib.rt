@@ -1,4 +1,4 @@
-//! Path sums over a stream of spectra, by tables that are merged chunk by chunk.
+//! Path sums over a stream of spectra that is fed chunk by chunk, made by halving the band.
 //!
 //! Source: Zackay & Ofek, ApJ 835:11, 2017.
 #![tactic(auto)]

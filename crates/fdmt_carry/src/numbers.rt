@@ -6,7 +6,7 @@ ghost use Rattle.fdmt_carry.specs.Orders.{start_of, place_of};
 
 use subband_plan::{Node, Plan, PlanRows, plans_are_laid, rows_are_numbered};
 
-/// Node 0.
+/// Node 0, the whole band.
 pub fn whole_band(plan: &Plan) -> Node
     ensures band { result ≡ root plan.now }
     ensures first { node_at (nodes_of plan.now) 0 ≡ root plan.now }

@@ -9,23 +9,28 @@ use psr_base::Memory;
 use row_schedule::SpareStores;
 use std::alloc::Global;
 
-/// A pass for samples up to a limit, and one for all samples where some may be greater.
+/// A first pass and, if samples may be above its limit, a pass for all samples.
 #[derive(Drop)]
 pub struct Passes {
+    /// The first pass.
     pub pass: Passing,
+    /// The greatest sample for which the first pass serves.
     pub limit: u32,
+    /// The pass for all samples, unless the first one serves for them too.
     pub spare: Option<Spare>,
 }
 
-/// A pass that may follow another one, and the lists that it works on.
+/// A pass that may follow another one.
 #[derive(Drop)]
 pub struct Spare {
+    /// The pass.
     pub pass: Passing,
+    /// The lists that it works on.
     pub stores: SpareStores,
 }
 
 impl Passes {
-    /// The passes over these tables for samples up to `max_sample`.
+    /// The passes over these tables, for samples up to `max_sample`.
     pub fn of(alloc: Global, tables: &Tables, max_sample: u32) -> Result<Passes, Memory>
         ensures pass { IfOk result (λ p. IsPassOf tables.now p.limit p.pass) }
         ensures some { IfOk result (λ p. p.limit < max_sample → p.spare ≢ None) }
@@ -38,7 +43,7 @@ impl Passes {
     }
 }
 
-// A pass for samples up to `max_sample`, where that is above the limit of another one.
+// A pass for samples up to `max_sample`, or `None` if `limit` is no lower.
 fn spare_pass(
     alloc: Global,
     tables: &Tables,

@@ -1,4 +1,4 @@
-// The schedule that makes the rows of the whole band one after another.
+// The schedule of a pass, which makes the rows of the whole band one after another.
 ghost use Rattle.std.specs.Prelude.{◌≡◌, ℕ, ◌+◌, ◌-◌, ◌*◌, ◌^◌, ◌≤◌, ◌<◌, true, false, length, IfOk, IfSome};
 ghost use Rattle.dada_model.specs.Bounds.{most_delay};
 ghost use Rattle.dada_model.specs.Edges.{most_channels};
@@ -17,25 +17,29 @@ use row_schedule::{Order, Schedule};
 use std::alloc::Global;
 use subband_plan::{Node, Plan, PlanRows};
 
-// A sum that is less than this has 16 bits.
+// A sum below this fits into 16 bits.
 const NARROW_SUMS: u32 = 65536;
 
-// The least limit of a first pass. Samples that had 4 bits or fewer stay below it, and so does noise of a small mean.
+// The smallest limit of a first pass. Samples that had 4 bits or fewer stay below it, and so does noise of a small
+// mean.
 const LEAST_LIMIT: u32 = 40;
 
-/// The schedule of a pass, where it stops, and whether rows of the whole band can be left out.
+/// A pass.
 #[derive(Drop)]
 pub struct Passing {
+    /// The schedule of all rows.
     pub schedule: Schedule,
+    /// The stops: 0, and for each row of the whole band the number of orders that are carried out once it is made.
     pub stops: Vec<usize>,
+    /// Whether rows of the whole band can be left out.
     pub can_leave_out: bool,
 }
 
 impl Passing {
     ghost use Rattle.fdmt_carry.specs.Passing.{IsPass};
 
-    /// The schedule of the rows of a plan over samples up to `limit`: the drafted one, or the plain one where that
-    /// can't be carried out or does not show the rows of the whole band by their delays. Which it is, no clause says.
+    /// The pass over the rows of a plan, for samples up to `limit`. It is the drafted one, or the plain one if the
+    /// draft can't be carried out or doesn't make the rows of the whole band by their delays. No clause says which.
     pub fn of(
         alloc: Global,
         plan: &Plan,
@@ -55,7 +59,7 @@ impl Passing {
         }
     }
 
-    // The schedule of a draft.
+    // The pass of a draft, or `None` if the draft can't be used.
     fn drafted(
         alloc: Global,
         plan: &Plan,
@@ -99,7 +103,7 @@ impl Passing {
         }
     }
 
-    // The plain schedule, which makes the rows of the whole band last.
+    // The plain pass, which makes the rows of the whole band last.
     fn plain(alloc: Global, plan: &Plan, rows: &PlanRows, chunk: u32) -> Result<Passing, Memory>
         requires rows { ArePlanRows plan.now rows.now }
         requires short { chunk ≤ 65536 }
@@ -114,8 +118,8 @@ impl Passing {
     }
 }
 
-// Whether the row of a delay of node `k`, which is given, has 16 bits: where no sum of it passes them; those of the
-// whole band have 32.
+// Whether the row of `delay` of node `k` has 16 bits: all its sums fit, and it is no row of the whole band. `node` is
+// node `k`.
 fn is_low(k: usize, node: Node, delay: u32, limit: u32) -> bool
     requires order { node.lo ≤ node.hi }
     requires channels { node.hi ≤ most_channels }
@@ -127,9 +131,9 @@ fn is_low(k: usize, node: Node, delay: u32, limit: u32) -> bool
     k > 0 && u64::from(limit) * cells < u64::from(NARROW_SUMS)
 }
 
-/// A limit of samples for a first pass: up to it the sums of all rows but those of the whole band have 16 bits. A limit
-/// that would be too low to last is raised, and then fewer rows have 16 bits. Nothing rests on it: a pass for samples
-/// up to any limit has the widths that these need.
+/// A limit of samples for a first pass. Up to it the sums of all rows but those of the whole band fit into 16 bits,
+/// unless that limit would be too low to last: then it is raised, and fewer rows have 16 bits. Nothing rests on it: a
+/// pass for samples up to any limit has rows as wide as they need.
 pub fn narrow_limit(plan: &Plan) -> u32 {
     let nodes = plan.all_nodes();
     let mut cells = 1;
@@ -158,7 +162,7 @@ fn narrow_rows(alloc: Global, plan: &Plan, rows: &PlanRows, limit: u32) -> Resul
     Ok(narrow)
 }
 
-// Whether an order that makes row `r` is the last one before stop `i + 1`.
+// Whether the last order before stop `i + 1` makes row `r`.
 fn is_stop(orders: &[Order], stops: &[usize], i: usize, r: usize) -> bool
     requires { i + 1 < length stops.now }
     ensures { result ≡ true → IsStop orders.now stops.now i r }
@@ -167,7 +171,7 @@ fn is_stop(orders: &[Order], stops: &[usize], i: usize, r: usize) -> bool
     from < to && to <= orders.len() && orders[to - 1].row as usize == r
 }
 
-// Whether nothing is kept of the first rows, so many.
+// Whether nothing is kept of the rows 0..count.
 fn keep_nothing(tails: &[u32], count: usize) -> bool
     requires { count ≤ length tails.now }
     ensures { result ≡ true → KeepNothing tails.now count }
@@ -180,7 +184,7 @@ fn keep_nothing(tails: &[u32], count: usize) -> bool
     true
 }
 
-// Whether a row is made of one of the first rows, so many.
+// Whether a row is made of any of the rows 0..count.
 fn is_made_of_first(source: Source, count: usize) -> bool
     ensures { result ≡ false → IsMadeOfLater source count }
 {
@@ -190,7 +194,7 @@ fn is_made_of_first(source: Source, count: usize) -> bool
     }
 }
 
-// Whether no row is made of one of the first rows, so many.
+// Whether no row is made of any of the rows 0..count.
 fn are_made_of_later(sources: &[Source], count: usize) -> bool
     ensures { result ≡ true → AreMadeOfLater sources.now (length sources.now) count }
 {
@@ -202,7 +206,7 @@ fn are_made_of_later(sources: &[Source], count: usize) -> bool
     true
 }
 
-// Whether no row is made of a row of the whole band, and nothing is kept of one. These rows come first.
+// Whether no row is made of a row of the whole band, and nothing is kept of these. Their numbers come first.
 fn are_last(plan: &Plan, rows: &PlanRows) -> bool
     requires rows { ArePlanRows plan.now rows.now }
     ensures { result ≡ true → BandRowsAreLast plan.now rows.now }
@@ -213,7 +217,7 @@ fn are_last(plan: &Plan, rows: &PlanRows) -> bool
         && are_made_of_later(rows.rows.sources.as_slice(), count)
 }
 
-// Whether these are the stops of all rows of the whole band.
+// Whether `stops` are the stops of all rows of the whole band.
 fn are_stops(plan: &Plan, rows: &PlanRows, orders: &[Order], stops: &[usize]) -> bool
     requires rows { ArePlanRows plan.now rows.now }
     ensures { result ≡ true → AreStops plan.now rows.now orders.now stops.now }

@@ -1,4 +1,4 @@
-// The plain order: the nodes from the last to the first, the rows of each by rising delay, each in a slot of its own.
+// The plain order: from the last node to the first, the rows of each by rising delay, each in a slot of its own.
 ghost use Rattle.std.specs.Prelude.{◌≡◌, ◌+◌, ◌-◌, ◌≤◌, ◌<◌, false, List, length, replicate, IfOk, OnOk};
 ghost use Rattle.subband_plan.specs.Nodes.{IsPlan, nodes_of};
 ghost use Rattle.subband_plan.specs.Rows.{ArePlanRows};
@@ -50,14 +50,14 @@ fn plain_orders(alloc: Global, plan: &Plan, rows: &PlanRows) -> Result<Vec<Order
     Ok(orders)
 }
 
-// That none of so many rows has 16 bits.
+// `count` times `false`: no row has 16 bits.
 fn all_wide(alloc: Global, count: usize) -> Result<Vec<bool>, Memory>
     ensures items { IfOk result (λ narrow. narrow.items ≡ replicate count false) }
 {
     Ok(vec![in alloc; false; count]?)
 }
 
-/// The schedule that makes all rows in the plain order, in 32 bits, of up to `most` spectra.
+/// The schedule that makes all rows in the plain order, in 32 bits, of at most `most` spectra at a time.
 pub fn plain_schedule(
     alloc: Global,
     plan: &Plan,
@@ -90,7 +90,8 @@ pub fn plain_schedule(
     }
 }
 
-/// Where to stop in the plain order.
+/// The stops of the plain order: 0, and for each row of the whole band the number of orders that are carried out once
+/// it is made.
 pub fn plain_stops(alloc: Global, plan: &Plan, rows: &PlanRows) -> Result<Vec<usize>, Memory>
     requires rows { ArePlanRows plan.now rows.now }
     ensures { IfOk result (λ stops. (orders : List Order) → ArePlain plan.now rows.now orders

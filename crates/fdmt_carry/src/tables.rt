@@ -1,4 +1,4 @@
-// The tables of a plan: rows of all nodes, and passes over them.
+// The rows of a plan, as tables of all nodes and in passes.
 ghost use Rattle.std.specs.Prelude.{◌≡◌, ℕ, ◌+◌, ◌-◌, ◌*◌, ◌≤◌, ◌<◌, length, IfOk, IfSome};
 ghost use Rattle.band_paths.specs.Edges.{channels_of};
 ghost use Rattle.search_model.specs.Samples.{Filterbank};
@@ -24,7 +24,7 @@ use subband_plan::{
     rows_are_numbered, rows_come_after,
 };
 
-/// The tables of a plan.
+/// A plan with its rows, and the schedule by which the rows of all nodes are made.
 #[derive(Drop)]
 pub struct Tables {
     plan: Plan,
@@ -44,8 +44,8 @@ impl Model for Tables {
 }
 
 impl Tables {
-    /// The tables of a plan, for up to `chunk` spectra at a time, and up to `most` where the rows of all nodes are
-    /// made.
+    /// The tables of a plan, for passes over at most `chunk` spectra, and for the rows of all nodes over at most `most`
+    /// spectra.
     pub fn of(alloc: Global, plan: Plan, chunk: u32, most: u32) -> Result<Tables, Memory>
         requires short { chunk ≤ 65536 }
         requires within { most ≤ chunk }
@@ -70,12 +70,12 @@ impl Tables {
         Passing::of(alloc, &self.plan, &self.rows, self.chunk, limit)
     }
 
-    /// A limit of samples for which a pass is fast.
+    /// A limit of samples up to which a pass is fast.
     pub fn narrow_limit(&self) -> u32 {
         narrow_limit(&self.plan)
     }
 
-    /// What holds of tables. It does nothing.
+    /// Law: the rows are those of the plan, and the numbers of spectra are in range. It does nothing.
     pub fn hold(&self)
         ensures { AreTables self.now }
     {
@@ -89,7 +89,7 @@ impl Tables {
         &self.plan
     }
 
-    /// How long lists are in which the rows of all nodes are made, and on which a pass works.
+    /// The sizes of lists in which the rows of all nodes are made, and on which a pass works.
     pub fn room(&self, pass: &Passing) -> Sizes
         ensures tables { AreEnoughForTables self.now.rows.rows self.now.most result }
         ensures pass { AreEnough pass.now.schedule result }
@@ -98,7 +98,7 @@ impl Tables {
         Sizes::of_tables(&self.rows.rows, self.most as usize).most(pass.schedule.sizes())
     }
 
-    /// Of how many spectra the rows of all nodes are made at most.
+    /// The maximum number of spectra over which the rows of all nodes are made.
     pub fn most(&self) -> u32
         ensures { result ≡ self.now.most }
     {
@@ -115,7 +115,7 @@ impl Tables {
         (band.first_row, band.last_row)
     }
 
-    // How many orders of a pass were carried out when it comes to the row of delay `d` of the whole band, or its end.
+    // How many orders of a pass are carried out when it comes to the row of delay `d` of the whole band, or to its end.
     fn stop(&self, pass: &Passing, d: u32) -> usize
         requires pass { (m : ℕ) × IsPassOf self.now m pass.now }
         requires from { self.now.plan.first ≤ d }
@@ -138,7 +138,7 @@ impl Tables {
         self.stop(pass, d + 1) - 1
     }
 
-    /// Makes the rows of all nodes, with the sums that end at the next spectra, and keeps what a pass goes on by.
+    /// Makes the rows of all nodes over the next spectra, and keeps of them what the pass keeps.
     pub fn fill(&self, pass: &Passing, stores: &mut Stores, samples: Samples<'_>, spectra: usize)
         requires pass { (m : ℕ) × IsPassOf self.now m pass.now }
         requires room { HaveTableRoom self.now.rows.rows self.now.most stores.old }
@@ -176,7 +176,7 @@ impl Tables {
         }
     }
 
-    // Makes the rows of node `k`, by their delays.
+    // Makes the rows of node `k`, by rising delay.
     fn fill_node(
         &self,
         pass: &Passing,
@@ -214,7 +214,7 @@ impl Tables {
         }
     }
 
-    /// Goes over from one pass to another, and to its lists: what is kept is written as that keeps it.
+    /// Goes over from one pass to the next and its lists, and moves what is kept of rows there.
     pub fn go_over(&self, pass: &Passing, next: &Passing, spare: SpareStores, stores: &mut Stores)
         requires pass { (m : ℕ) × IsPassOf self.now m pass.now }
         requires next { (m : ℕ) × IsPassOf self.now m next.now }
@@ -229,7 +229,7 @@ impl Tables {
         stores.go_over(&self.rows.rows, &pass.schedule, &next.schedule, spare);
     }
 
-    /// A pass begins before the row of the first delay. It does nothing.
+    /// Law: a pass begins before the row of the first delay. It does nothing.
     pub fn begins(&self, pass: &Passing)
         requires { (m : ℕ) × IsPassOf self.now m pass.now }
         ensures { IsBefore self.now pass.now self.now.plan.first 0 }
@@ -240,8 +240,8 @@ impl Tables {
         let _ = &pass.stops;
     }
 
-    /// Carries out the orders of a pass up to the one that makes the row of delay `d` of the whole band, without it. So
-    /// many were carried out before; gives how many are now.
+    /// Carries out the orders of a pass up to, but without, the one that makes the row of delay `d` of the whole band.
+    /// `done` orders were carried out before; answers how many are now.
     pub fn reach_row(
         &self,
         pass: &Passing,
@@ -273,7 +273,7 @@ impl Tables {
         order
     }
 
-    /// Goes on to the next row of the whole band after that of delay `d`, which it makes.
+    /// Makes the row of delay `d` of the whole band. `done` orders were carried out before; answers how many are now.
     pub fn make_row(
         &self,
         pass: &Passing,
@@ -307,8 +307,8 @@ impl Tables {
         to
     }
 
-    /// The two rows of 16 bits of which the row of delay `d` of the whole band is made by the next order, after so
-    /// many, where it can be left out.
+    /// The two rows of 16 bits whose sum is the row of delay `d` of the whole band. `None` if that row can't be left
+    /// out, or if the next order, after `done` orders, doesn't make it of two such rows.
     pub fn halves<'a>(
         &self,
         pass: &Passing,
@@ -337,7 +337,8 @@ impl Tables {
         pass.schedule.halves(order, stores, spectra)
     }
 
-    /// Goes on to the next row of the whole band after that of delay `d`, which it leaves out.
+    /// Leaves the row of delay `d` of the whole band out. `done` orders were carried out before; answers how many are
+    /// now.
     pub fn leave_out(&self, pass: &Passing, d: u32, done: usize) -> usize
         requires pass { (m : ℕ) × IsPassOf self.now m pass.now }
         requires leave { CanLeaveOut self.now pass.now d done }
@@ -353,7 +354,7 @@ impl Tables {
         self.stop(pass, d + 1)
     }
 
-    /// The row of delay `d` of the whole band, which a pass made last, and which stands.
+    /// The row of delay `d` of the whole band, which the pass made last.
     pub fn made<'a>(&self, pass: &Passing, d: u32, stores: &'a Stores, spectra: usize) -> &'a [u32]
         requires pass { (m : ℕ) × IsPassOf self.now m pass.now }
         requires row { HasRow (root self.now.plan) d }
@@ -372,7 +373,7 @@ impl Tables {
         pass.schedule.row(&self.rows.rows, stores, order, spectra)
     }
 
-    /// The row of delay `d` of node `k`, which was made with those of all nodes.
+    /// The row of delay `d` of node `k`, made with those of all nodes.
     pub fn table<'a>(&self, k: usize, d: u32, stores: &'a Stores, spectra: usize) -> &'a [u32]
         requires node { k < node_count self.now }
         requires row { HasRow (node_of self.now k) d }

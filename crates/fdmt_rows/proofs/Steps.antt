@@ -1,6 +1,5 @@
 -- A row that is written a step at a time.
-use Rattle.std.proofs.Common.{◌≡◌, ℕ, ◌+◌, ◌-◌, ◌<◌, ◌≤◌, inl, inr, List, length, map, slice_index, get_or, cond, ltb, max, ◌∙◌, sym, ap, subst, arith}
-use Rattle.std.proofs.lemmas.Bool.{cases_lt}
+use Rattle.std.proofs.Common.{◌≡◌, ℕ, ◌+◌, ◌-◌, ◌<◌, ◌≤◌, List, length, map, slice_index, get_or, cond, ltb, max, ◌∙◌, sym, ap, subst, arith}
 use Rattle.std.proofs.lemmas.Bool.Decides.{nat_tests}
 use Rattle.std.specs.Simd.Lanes.{zip2, chunk, put_chunk}
 use Rattle.std.proofs.lemmas.List.{get_or-map, length-map}
@@ -80,20 +79,6 @@ length_zipped f a b at n in_a in_b =
     let la : length (chunk at n a) ≡ n = length-chunk at n a in_a in
     let lb : length (chunk at n b) ≡ n = length-chunk at n b in_b in
     length-zip2 f (chunk at n a) (chunk at n b) (la ∙ sym lb) ∙ la
-
--- one step more
-pub more : (old mid new : List ℕ) (i j : ℕ) (value step : ℕ → ℕ) → i ≤ j
-    → Writes old mid 0 i value → Writes mid new i j step
-    → ((k : ℕ) → i ≤ k → k < j → step k ≡ value k)
-    → Writes old new 0 j value
-more old mid new i j value step le so_far one same = record {
-  before = λ k h. absurd (omega arith);
-  written = λ k low high. elim (cases_lt k i) [
-    | inl h ↦ one.before k h ∙ so_far.written k low h
-    | inr h ↦ one.written k h high ∙ same k h high
-  ];
-  after = λ k h. one.after k h ∙ so_far.after k (omega arith);
-}
 
 -- the greater of two lanes
 pub greater_is_max : (x y z : ℕ) → y ≡ z → cond (ltb x y) y x ≡ max x z

@@ -1,4 +1,4 @@
-// Sums of two rows, and the greatest of them in the same pass.
+// Adds two rows and finds the greatest sum, in one pass.
 ghost use Rattle.std.specs.Prelude.{◌≡◌, ℕ, ◌+◌, ◌<◌, ◌≤◌, length, max, slice_index};
 ghost use Rattle.fdmt_rows.specs.Lanes.{AreLaneGreatest};
 ghost use Rattle.fdmt_rows.specs.Rows.{AddsWrapping, AddsPlainly, IsGreatest, sums_of, wrapping_sum};
@@ -8,7 +8,7 @@ use crate::lanes::LANES;
 use crate::maxima::{greater_lanes, greatest_of_lanes};
 use std::simd::prelude::*;
 
-// Stores a sum for each lane, and gives the greater of each and what a lane has.
+// Stores sixteen sums, and answers the greater of each sum and the value of its lane.
 #[inline(always)]
 fn add_and_compare(lanes: u32x16, out: &mut [u32], a: &[u32], b: &[u32], at: usize) -> u32x16
     requires room { at + LANES ≤ length out.old }
@@ -25,7 +25,7 @@ fn add_and_compare(lanes: u32x16, out: &mut [u32], a: &[u32], b: &[u32], at: usi
     greater_lanes(lanes, sums)
 }
 
-// As many sums as whole lanes have.
+// Adds as many values as fill whole lanes. Answers the greatest sum of each lane, and how many values were added.
 #[inline(always)]
 fn add_lanes_greatest(out: &mut [u32], a: &[u32], b: &[u32]) -> (u32x16, usize)
     requires first { length a.now ≡ length out.old }
@@ -43,7 +43,7 @@ fn add_lanes_greatest(out: &mut [u32], a: &[u32], b: &[u32]) -> (u32x16, usize)
     (lanes, steps * LANES)
 }
 
-/// Adds two rows value by value into `out`, modulo 2^32, and gives the greatest value of `out`, or 0 where it has none.
+/// Adds two rows value by value into `out`, modulo 2^32. Answers the greatest value of `out`, or 0 if it is empty.
 pub fn add_rows_greatest(out: &mut [u32], a: &[u32], b: &[u32]) -> u32
     requires first { length a.now ≡ length out.old }
     requires second { length b.now ≡ length out.old }

@@ -1,5 +1,4 @@
-// Sums of rows of numbers of 16 bits, sixteen values a step. The greatest such number stands for itself and for all
-// that are greater.
+// Sums of rows of 16 bits that stop at 65535, sixteen values a step. 65535 means 65535 or more.
 ghost use Rattle.std.specs.Prelude.{◌≡◌, ℕ, ◌+◌, ◌*◌, ◌<◌, ◌≤◌, length, slice_index};
 ghost use Rattle.fdmt_rows.specs.Capped.{capped_sum, AreRaised, LanesUpTo, SumsUpTo, FirstSumsUpTo};
 ghost use Rattle.fdmt_rows.specs.Writes.{Writes};
@@ -7,7 +6,7 @@ ghost use Rattle.fdmt_rows.specs.Writes.{Writes};
 use crate::lanes::LANES;
 use std::simd::prelude::*;
 
-/// The sums of lanes.
+/// Adds lane by lane. 65535 means 65535 or more.
 #[inline(always)]
 pub fn add_capped(a: u16x16, b: u16x16) -> u16x16
     requires first { length a ≡ 16 }
@@ -19,7 +18,7 @@ pub fn add_capped(a: u16x16, b: u16x16) -> u16x16
     a.saturating_add(b)
 }
 
-/// Sixteen sums.
+/// Adds sixteen values of each row, from place `at` on.
 #[inline(always)]
 pub fn sums_at(first: &[u16], second: &[u16], at: usize) -> u16x16
     requires first { at + LANES ≤ length first.now }
@@ -34,6 +33,7 @@ pub fn sums_at(first: &[u16], second: &[u16], at: usize) -> u16x16
     )
 }
 
+// Writes sixteen sums from place `at` on.
 #[inline(always)]
 fn add_capped_lanes(out: &mut [u16], first: &[u16], second: &[u16], at: usize)
     requires room { at + LANES ≤ length out.old }
@@ -45,8 +45,7 @@ fn add_capped_lanes(out: &mut [u16], first: &[u16], second: &[u16], at: usize)
     sums_at(first, second, at).copy_to_slice(&mut out[at..]);
 }
 
-/// Adds the first values of two rows in 16 bits, sixteen in each of so many steps. A sum of 65535 stands for itself and
-/// for all that are greater.
+/// Adds the first `16 * steps` values of two rows in 16 bits. A sum of 65535 means 65535 or more.
 pub fn add_capped_rows(out: &mut [u16], first: &[u16], second: &[u16], steps: usize)
     requires room { steps * LANES ≤ length out.old }
     requires first { steps * LANES ≤ length first.now }
@@ -59,7 +58,7 @@ pub fn add_capped_rows(out: &mut [u16], first: &[u16], second: &[u16], steps: us
     }
 }
 
-/// The greater of each two lanes.
+/// The greater value of each lane.
 #[inline(always)]
 pub fn greater(a: u16x16, b: u16x16) -> u16x16
     requires first { length a ≡ 16 }
@@ -69,8 +68,8 @@ pub fn greater(a: u16x16, b: u16x16) -> u16x16
     a.simd_max(b)
 }
 
-/// Raises lanes to the sums of the first values of two rows in 16 bits, the second from a place on, sixteen in each of
-/// so many steps. A sum of 65535 stands for itself and for all that are greater.
+/// Raises each lane of `most` to the greatest of its sums. The sums are those of the first `16 * steps` values of
+/// `first` and the values of `second` from place `turn` on. A sum of 65535 means 65535 or more.
 #[inline(always)]
 pub fn raise_to_sums(
     most: u16x16,
@@ -92,7 +91,7 @@ pub fn raise_to_sums(
     raised
 }
 
-/// The greatest of all lanes.
+/// The greatest of the lanes.
 pub fn greatest_lane(lanes: u16x16) -> u16
     requires { length lanes ≡ 16 }
     ensures enough { LanesUpTo lanes result }
@@ -105,7 +104,7 @@ pub fn greatest_lane(lanes: u16x16) -> u16
     most
 }
 
-// The greatest sum of as many values as whole lanes have.
+// The greatest sum of as many values as fill whole lanes, and how many these are.
 #[inline(always)]
 fn greatest_whole_sum(a: &[u16], b: &[u16]) -> (u16, usize)
     requires { length b.now ≡ length a.now }
@@ -118,8 +117,7 @@ fn greatest_whole_sum(a: &[u16], b: &[u16]) -> (u16, usize)
     (greatest_lane(lanes), steps * LANES)
 }
 
-/// The greatest sum of two values of these rows at the same place, or 0 where they have none. A sum of 65535 stands for
-/// itself and for all that are greater.
+/// The greatest sum of two values at the same place, or 0 if the rows are empty. 65535 means 65535 or more.
 pub fn greatest_narrow_sum(a: &[u16], b: &[u16]) -> u16
     requires { length b.now ≡ length a.now }
     ensures enough { FirstSumsUpTo a.now b.now (length a.now) result }

@@ -1,5 +1,4 @@
-// Rows that are copied, in as many steps of whole lanes as they have: a call of the library that copies memory costs
-// more than a short row.
+// Copies of rows, sixteen values a step. For short rows this is faster than the copy of the library.
 ghost use Rattle.std.specs.Prelude.{◌≡◌, ◌+◌, ◌<◌, ◌≤◌, length, slice_index};
 ghost use Rattle.fdmt_rows.specs.Writes.{Writes};
 

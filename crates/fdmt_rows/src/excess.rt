@@ -1,6 +1,5 @@
-// What values have above a base, in 16 bits, sixteen values a step. Where the greatest of it is found in the same pass,
-// the last step takes the last sixteen values, some of them again where it has to, so that no value is left for a loop of
-// single ones.
+// Writes how far values lie above a base, in 16 bits, sixteen values a step. A function that also finds the maximum
+// ends with the last sixteen values, some of which it may take twice, so that no loop over single values is needed.
 ghost use Rattle.std.specs.Prelude.{◌≡◌, ℕ, ◌+◌, ◌-◌, ◌<◌, ◌≤◌, length, slice_index};
 ghost use Rattle.fdmt_rows.specs.Capped.{capped_sum, AreRaised, LanesUpTo};
 ghost use Rattle.fdmt_rows.specs.Excess.{excess, excess_of_two, AreValues};
@@ -12,10 +11,10 @@ use crate::lanes::LANES;
 use crate::narrow::NARROW_VALUES;
 use std::simd::prelude::*;
 
-// The greatest number of 16 bits, which stands for itself and for all that are greater.
+// The greatest value of 16 bits. It means 65535 or more.
 const MOST: u32 = 65535;
 
-// Stores lanes, and gives the greater of each and what a lane has.
+// Stores lanes from place `at` on, and answers the greater of each and of the value of its lane in `most`.
 #[inline(always)]
 fn store_and_raise(most: u16x16, out: &mut [u16], lanes: u16x16, at: usize) -> u16x16
     requires most { length most ≡ 16 }
@@ -28,7 +27,7 @@ fn store_and_raise(most: u16x16, out: &mut [u16], lanes: u16x16, at: usize) -> u
     greater(most, lanes)
 }
 
-// What lanes have above a base.
+// How far each lane lies above `base`; 0 if it is below.
 #[inline(always)]
 fn lanes_above(lanes: u16x16, base: u16) -> u16x16
     requires { length lanes ≡ 16 }
@@ -38,7 +37,7 @@ fn lanes_above(lanes: u16x16, base: u16) -> u16x16
     lanes.saturating_sub(u16x16::splat(base))
 }
 
-// What sixteen values of each of two rows have above a base each, together.
+// Adds how far sixteen values of each row lie above the base of their row.
 #[inline(always)]
 fn excess_of_two_at(
     upper: &[u16],
@@ -59,7 +58,7 @@ fn excess_of_two_at(
     add_capped(upper_above, lower_above)
 }
 
-// What sixteen values have above a base, in 32 bits.
+// How far sixteen values lie above `base`, in 32 bits.
 #[inline(always)]
 fn wide_excess_at(values: &[u32], base: u32, at: usize) -> u32x16
     requires { at + LANES ≤ length values.now }
@@ -71,7 +70,7 @@ fn wide_excess_at(values: &[u32], base: u32, at: usize) -> u32x16
     above.simd_min(u32x16::splat(MOST))
 }
 
-// The same in 16 bits.
+// How far sixteen values lie above `base`, in 16 bits.
 #[inline(always)]
 fn excess_at(values: &[u32], base: u32, at: usize) -> u16x16
     requires { at + LANES ≤ length values.now }
@@ -107,8 +106,8 @@ fn write_excess_whole_lanes(out: &mut [u16], values: &[u32], base: u32) -> usize
     steps * LANES
 }
 
-/// Writes what values of 32 bits have above a base, in 16 bits. A value below the base counts as 0. What is written as
-/// 65535 stands for itself and for all that is greater.
+/// Writes how far values of 32 bits lie above `base`, in 16 bits. A value below the base counts as 0. 65535 means 65535
+/// or more.
 pub fn write_excess(out: &mut [u16], values: &[u32], base: u32)
     requires { length values.now ≡ length out.old }
     ensures { AreValues out.new (λ k. excess base (slice_index values.now k)) }
@@ -118,8 +117,8 @@ pub fn write_excess(out: &mut [u16], values: &[u32], base: u32)
     }
 }
 
-/// Adds what the values of two rows have above a base each, in 16 bits, and gives the greatest sum. A value below its
-/// base counts as 0. A sum of 65535 stands for itself and for all that are greater.
+/// Adds how far the values of two rows lie above the base of their row, in 16 bits, and answers the greatest sum. A
+/// value below its base counts as 0. A sum of 65535 means 65535 or more.
 pub fn add_excess_greatest(
     out: &mut [u16],
     upper: &[u16],
@@ -146,7 +145,7 @@ pub fn add_excess_greatest(
     greatest_lane(store_and_raise(most, out, lanes, last))
 }
 
-/// Adds two rows in 16 bits, and gives the greatest sum. A sum of 65535 stands for itself and for all that are greater.
+/// Adds two rows in 16 bits, and answers the greatest sum. A sum of 65535 means 65535 or more.
 pub fn add_capped_greatest(out: &mut [u16], first: &[u16], second: &[u16]) -> u16
     requires some { LANES ≤ length out.old }
     requires first { length first.now ≡ length out.old }
@@ -164,7 +163,7 @@ pub fn add_capped_greatest(out: &mut [u16], first: &[u16], second: &[u16]) -> u1
     greatest_lane(store_and_raise(most, out, sums_at(first, second, last), last))
 }
 
-/// Does what `write_excess` does, and gives the greatest of it.
+/// Does what `write_excess` does, and answers the greatest value written.
 pub fn write_excess_greatest(out: &mut [u16], values: &[u32], base: u32) -> u16
     requires some { LANES ≤ length out.old }
     requires same { length values.now ≡ length out.old }

@@ -1,4 +1,4 @@
-// Loops over as many whole lanes as a row has, sixteen values a step. Each says how far it came.
+// Loops over as many values as fill whole lanes, sixteen a step. Each answers how many values these are.
 ghost use Rattle.std.specs.Prelude.{◌≡◌, ◌+◌, ◌<◌, ◌≤◌, length, slice_index};
 ghost use Rattle.fdmt_rows.specs.Rows.{wrapping_sum};
 ghost use Rattle.fdmt_rows.specs.Writes.{Writes};

@@ -1,5 +1,4 @@
-//! Whole rows of values: their sums, their greatest value, and copies in the same or another width, sixteen values at a
-//! time and the rest one by one.
+//! Sums, maxima and copies of whole rows of values, sixteen values at a time and the rest one by one.
 #![tactic(auto)]
 
 ghost use Rattle.std.specs.Prelude.{◌≡◌, ℕ, ◌+◌, ◌-◌, ◌<◌, ◌≤◌, ◌^◌, length, slice_index};
@@ -36,7 +35,7 @@ pub fn add_rows(out: &mut [u32], a: &[u32], b: &[u32])
     }
 }
 
-/// Adds `a` to a row value by value, modulo 2^32.
+/// Adds `a` to `row` value by value, modulo 2^32.
 pub fn add_to_row(row: &mut [u32], a: &[u32])
     requires { length a.now ≡ length row.old }
     ensures wrapping { AddsWrapping row.new row.old a.now }
@@ -47,8 +46,8 @@ pub fn add_to_row(row: &mut [u32], a: &[u32])
     }
 }
 
-/// Running sums: where `x` has n values and `out` has m, `out[k]` is the sum of the n - m + 1 values of `x` from `x[k]`
-/// on. They have to fit into 32 bits.
+/// Running sums: if `x` has n values and `out` has m, `out[k]` is the sum of the n - m + 1 values of `x` from `x[k]`
+/// on. Each sum must fit into 32 bits.
 pub fn running(out: &mut [u32], x: &[u32])
     requires longer { length out.old ≤ length x.now }
     requires fits { (k : ℕ) → k < length out.old
@@ -63,7 +62,7 @@ pub fn running(out: &mut [u32], x: &[u32])
     }
 }
 
-/// The greatest value of a row, or 0 where it has none.
+/// The greatest value of a row, or 0 if it is empty.
 pub fn greatest(row: &[u32]) -> u32
     ensures { IsGreatest row.now result }
 {

@@ -1,11 +1,11 @@
-// The greatest value in each lane, and of those.
+// The greatest value of each lane, and the greatest of the lanes.
 ghost use Rattle.std.specs.Prelude.{◌≡◌, ℕ, ◌+◌, ◌<◌, ◌≤◌, length, max, slice_index};
 ghost use Rattle.fdmt_rows.specs.Lanes.{AreLaneGreatest, IsZeroOrIn};
 
 use crate::lanes::LANES;
 use std::simd::prelude::*;
 
-/// The greater of each lane of both.
+/// The greater value of each lane.
 #[inline(always)]
 pub fn greater_lanes(a: u32x16, b: u32x16) -> u32x16
     ensures long { length result ≡ 16 }

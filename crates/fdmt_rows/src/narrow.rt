@@ -1,5 +1,5 @@
-// Rows of values of 16 bits: their sums, values of 32 bits in 16 bits and back, and bytes. The loops over whole lanes
-// take sixteen values a step, and say how far they came.
+// Rows of values of 16 bits: sums, and conversions to 32 bits, from 32 bits and from bytes. The loops over whole lanes
+// take sixteen values a step, and answer how many values they took.
 ghost use Rattle.std.specs.Prelude.{◌≡◌, ◌+◌, ◌%◌, ◌^◌, ◌<◌, ◌≤◌, length, slice_index};
 ghost use Rattle.fdmt_rows.specs.Rows.{wrapping_sum, narrow_sum, AddsWrapping, AddsNarrowly, Narrows};
 ghost use Rattle.fdmt_rows.specs.Writes.{Writes};
@@ -7,7 +7,7 @@ ghost use Rattle.fdmt_rows.specs.Writes.{Writes};
 use crate::lanes::LANES;
 use std::simd::prelude::*;
 
-// How many values 16 bits have.
+// The number of values that 16 bits can have.
 pub(crate) const NARROW_VALUES: u32 = 65536;
 
 #[inline(always)]
@@ -169,7 +169,7 @@ fn widen_whole_byte_lanes(out: &mut [u16], bytes: &[u8]) -> usize
     steps * LANES
 }
 
-/// Adds two rows of values of 16 bits value by value, modulo 2^16.
+/// Adds two rows of 16-bit values value by value, modulo 2^16.
 pub fn add_narrow_rows(out: &mut [u16], a: &[u16], b: &[u16])
     requires first { length a.now ≡ length out.old }
     requires second { length b.now ≡ length out.old }
@@ -180,7 +180,7 @@ pub fn add_narrow_rows(out: &mut [u16], a: &[u16], b: &[u16])
     }
 }
 
-/// Adds two rows of values of 16 bits value by value, in 32 bits.
+/// Adds two rows of 16-bit values value by value, in 32 bits.
 pub fn add_widened_rows(out: &mut [u32], a: &[u16], b: &[u16])
     requires first { length a.now ≡ length out.old }
     requires second { length b.now ≡ length out.old }
@@ -191,7 +191,7 @@ pub fn add_widened_rows(out: &mut [u32], a: &[u16], b: &[u16])
     }
 }
 
-/// Adds a row of values of 16 bits to a row of values of 32 bits, value by value, in 32 bits.
+/// Adds a row of 32-bit values and a row of 16-bit values, value by value, modulo 2^32.
 pub fn add_mixed_rows(out: &mut [u32], wide: &[u32], narrow: &[u16])
     requires first { length wide.now ≡ length out.old }
     requires second { length narrow.now ≡ length out.old }

@@ -1,4 +1,4 @@
-//! Fold sums as the definition has them: each row of a series is shifted by the bits of its number.
+//! Fold sums by definition: each row of a series is shifted by an amount that the bits of its number give.
 //!
 //! Source: Staelin, Proc. IEEE 57:724, 1969.
 #![tactic(auto)]
@@ -6,7 +6,7 @@
 ghost use Rattle.std.specs.Prelude.{◌≡◌, ◌+◌, ◌-◌, ◌*◌, ◌/◌, ◌%◌, ◌^◌, ◌==◌, ◌<◌, ◌≤◌, length, if◌then◌else◌};
 ghost use Rattle.search_model.specs.Folds.{shift as shift_of, fold_sum as fold_sum_of};
 
-// What bit `m - 1 - k` of row `i` adds to the shift of trial `j`: half of `j / 2^k`, rounded up.
+// What bit `m - 1 - k` of row `i` adds to the shift of trial `j`: half of `j / 2^k`, rounded up, if the bit is set.
 fn part(m: u32, j: u32, i: u32, k: u32) -> u32
     requires bits { m ≤ 12 }
     requires bit { k < m }
@@ -22,7 +22,7 @@ fn part(m: u32, j: u32, i: u32, k: u32) -> u32
     }
 }
 
-/// How many phases trial `j` of `2^m` rows shifts row `i`.
+/// By how many phases trial `j` of `2^m` rows shifts row `i`.
 pub fn shift(m: u32, j: u32, i: u32) -> u32
     requires some { 1 ≤ m }
     requires few { m ≤ 12 }
@@ -38,7 +38,7 @@ pub fn shift(m: u32, j: u32, i: u32) -> u32
     shift
 }
 
-/// The sum of trial `j` at a phase over the first `2^m` rows of `p` values of a series.
+/// The sum of trial `j` at a phase, over the first `2^m` rows of `p` values of a series.
 pub fn fold_sum(series: &[u32], p: u32, m: u32, j: u32, phase: u32) -> u64
     requires some { 1 ≤ m }
     requires few { m ≤ 12 }

@@ -81,11 +81,11 @@ is_folded s d = folds_are_on s && ((d - s.min_delay) % s.fold_step == 0)
 abbrev pub most_used : Search → ℕ → ℕ
 most_used s d = if is_folded s d then s.fold_max * 2 ^ s.fold_rows else 0
 
--- the folds of one delay, where it is folded
+-- the folds of one delay, if it is folded
 abbrev pub folds_if_folded : Filterbank → List ℕ → (ℕ → ℕ) → Search → ℕ → List Candidate
 folds_if_folded f edges cells s d = if is_folded s d then folds_of_delay f edges cells s d else []
 
--- those of so many delays from `first` on
+-- the folds of `count` delays from `first` on
 abbrev pub folds_of_delays : Filterbank → List ℕ → (ℕ → ℕ) → Search → ℕ → ℕ → List Candidate
 folds_of_delays f edges cells s first count =
     flat_map (λ d. folds_if_folded f edges cells s d) (range_with_len first count)

@@ -4,8 +4,8 @@ ghost use Rattle.fold_search.specs.Cells.{cells_by, Plain, Counted};
 
 use std::marker::Model;
 
-// How many cells a path sum of each delay adds up: all of its path over so many channels, or as many as were counted
-// for each delay from 0 on, and none past the last of these.
+// The cells of the path sum of each delay: all channels of the path, or a count for each delay from 0 on, and 0 past
+// the last count.
 #[derive(Drop)]
 enum Kept {
     Plain(u32),
@@ -28,7 +28,7 @@ impl Model for Cells {
 }
 
 impl Cells {
-    /// All of each path, over so many channels.
+    /// All cells of each path over `channels` channels.
     pub fn plain(channels: u32) -> Cells
         ensures { result ≡ Plain channels }
     {
@@ -37,7 +37,7 @@ impl Cells {
         }
     }
 
-    /// As many as were counted for each delay, from 0 on, and none past the last of these.
+    /// `counts[d]` cells for delay `d`, and none past the last count.
     pub fn counted(counts: Vec<u32>) -> Cells
         ensures { result ≡ Counted counts.items }
     {
@@ -46,7 +46,7 @@ impl Cells {
         }
     }
 
-    /// How many a path sum of a delay adds up.
+    /// How many cells a path sum of `delay` adds up.
     pub fn at(&self, delay: u32) -> u32
         requires { cells_by self.now delay < 2 ^ 32 }
         ensures { result ≡ cells_by self.now delay }
@@ -58,7 +58,7 @@ impl Cells {
     }
 }
 
-// The count of a delay, 0 past the last.
+// The count of a delay, or 0 past the last.
 fn count_at(counts: &[u32], delay: u32) -> u32
     ensures { result ≡ slice_index counts.now delay }
 {

@@ -21,7 +21,7 @@ use search_model::Search;
 use std::alloc::Global;
 use std::marker::Model;
 
-/// The series of a shard's delays that are folded, as far as folds can use them. All memory is taken at once.
+/// The series of a shard's delays, as far as folds use them, and the search of their folds. `open` takes all memory.
 #[derive(Drop)]
 pub struct FoldSearch {
     search: Search,
@@ -48,7 +48,8 @@ impl Model for FoldSearch {
 }
 
 impl FoldSearch {
-    /// Takes the memory for the delays from `first` up to, but without, `end`, whose path sums are at most `bound`.
+    /// Takes the memory for the delays from `first` up to, but without, `end`, in spectra. No path sum is above
+    /// `bound`.
     pub fn open(
         alloc: Global,
         search: &Search,
@@ -72,7 +73,7 @@ impl FoldSearch {
         })
     }
 
-    /// Whether the series of a delay is folded. Of one that isn't, nothing is kept, whatever is taken of it.
+    /// Whether the series of a delay is folded. If not, nothing of it is kept.
     pub fn is_folded(&self, delay: u32) -> bool
         requires { HasDelay self.now delay }
         ensures value { result ≡ is_folded_of self.now.search delay }
@@ -82,7 +83,7 @@ impl FoldSearch {
         is_folded(&self.search, delay)
     }
 
-    /// Takes the next path sums of a delay. The first of a delay is the one that ends at the spectrum of that number.
+    /// Takes the next path sums of a delay. The first one of a delay must end at the spectrum with the delay's number.
     pub fn take(&mut self, delay: u32, row: &[u32])
         requires delay { HasDelay self.old delay }
         requires small { All (λ x. x ≤ self.old.bound) row.now }
@@ -128,7 +129,7 @@ fn is_folded(search: &Search, delay: u32) -> bool
     search.fold_min <= search.fold_max && (delay - search.min_delay) % search.fold_step == 0
 }
 
-// How many values of the series of a delay folds can use.
+// How many values of the series of a delay folds use.
 fn most_used(search: &Search, delay: u32) -> usize
     requires range { SettingsInRange search.now }
     requires from { search.now.min_delay ≤ delay }
@@ -141,7 +142,7 @@ fn most_used(search: &Search, delay: u32) -> usize
     }
 }
 
-// A folder for the folds of a search, where they are on.
+// A folder for the folds of a search, or the smallest one if folding is off.
 fn open_folder(alloc: Global, search: &Search) -> Result<Folder, Memory>
     requires range { SettingsInRange search.now }
     requires fits { IsTrue (folds_are_on search.now)
@@ -156,7 +157,7 @@ fn open_folder(alloc: Global, search: &Search) -> Result<Folder, Memory>
     }
 }
 
-// The fronts of the series of the delays from `first` up to, but without, `end`, with no value yet.
+// Empty series for the delays from `first` up to, but without, `end`.
 fn open_fronts(alloc: Global, search: &Search, first: u32, end: u32) -> Result<Vec<Series>, Memory>
     requires range { SettingsInRange search.now }
     requires delays { IsDelayRange search.now first end }
@@ -171,7 +172,7 @@ fn open_fronts(alloc: Global, search: &Search, first: u32, end: u32) -> Result<V
     Ok(fronts)
 }
 
-// Adds the detected folds of a delay, where it is folded.
+// Adds the detected folds of a delay, if it is folded.
 fn fold_front(
     book: &mut Book,
     folder: &mut Folder,
@@ -200,7 +201,7 @@ fn fold_front(
     }
 }
 
-// Adds the detected folds of the delays from `first` on.
+// Adds the detected folds of all delays, which begin with `first`.
 fn fold_fronts(
     book: &mut Book,
     folder: &mut Folder,

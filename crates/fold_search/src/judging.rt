@@ -1,4 +1,4 @@
-// Folds of a list of values, judged.
+// Judges the folds of a list of values.
 ghost use Rattle.std.specs.Prelude.{◌≡◌, ℕ, ◌+◌, ◌-◌, ◌*◌, ◌^◌, ◌<◌, ◌≤◌, List, [], Option, Some, None, false, length, slice_index};
 ghost use Rattle.search_model.specs.declared.search.Search.{Search};
 ghost use Rattle.search_model.specs.Folds.{halvings as halvings_of, fold_sum};
@@ -17,13 +17,13 @@ use fast_fold::{Folder, MOST_HALVINGS, folds_see_rows};
 use fdmt_rows::greatest;
 use search_model::{Candidate, Search, tests_detection};
 
-/// How many least sums there are at most: one for each number of halvings, from 0 to 12.
+/// The maximum number of thresholds: one for each number of halvings, from 0 to 12.
 const LEAST_SUMS: usize = 13;
 
-/// The greatest sum that is told of what values have above a base.
+/// The greatest sum above a base that a folder answers.
 const MOST_EXCESS: u32 = 65535;
 
-// The trials of a delay's series at a period, with `2^halvings` rows.
+// The trials of the series of a delay at a period, with `2^halvings` rows.
 #[derive(Clone, Copy)]
 struct Trials {
     delay: u32,
@@ -31,7 +31,7 @@ struct Trials {
     halvings: u32,
 }
 
-// Adds the phases of a trial that reach the least sum.
+// Adds the phases of a trial whose sums are at least `least`.
 fn add_reaching(book: &mut Book, sums: &[u32], least: u32, of: Trials, trial: u32)
     requires room { book.old.count + length sums.now ≤ 2 ^ 63 }
     requires short { length sums.now < 2 ^ 32 }
@@ -54,8 +54,8 @@ fn add_reaching(book: &mut Book, sums: &[u32], least: u32, of: Trials, trial: u3
     }
 }
 
-// Adds the phases of a trial that are detected: those whose sums reach the least sum. They are looked at one by one
-// only where the greatest sum reaches it.
+// Adds the phases of a trial that are detected: those whose sums are at least `least`. They are looked at one by one
+// only if the greatest sum is.
 fn judge(book: &mut Book, sums: &[u32], least: Option<u32>, of: Trials, trial: u32)
     requires room { book.old.count + length sums.now ≤ 2 ^ 63 }
     requires short { length sums.now < 2 ^ 32 }
@@ -111,7 +111,8 @@ fn fold_all(folder: &mut Folder, values: &[u32], period: u32, halvings: u32)
     }
 }
 
-// The most halvings, up to `most`, of which the rows fit into so many values; 0 where not even two rows do.
+// The greatest number of halvings, at most `most`, whose rows of `period` values fit into `room` values; 0 if not even
+// two rows do.
 fn halvings(most: u32, period: u32, room: usize) -> u32
     requires few { most ≤ 12 }
     ensures value { result ≡ halvings_of most period room }
@@ -127,7 +128,7 @@ fn halvings(most: u32, period: u32, room: usize) -> u32
     halvings
 }
 
-// For each number of halvings up to `most`, the least sum of a fold that is detected.
+// For each number of halvings up to `most`, the smallest sum of a fold that is detected.
 fn least_sums(rule: &Rule, cells: u32, most: u32) -> [Option<u32>; LEAST_SUMS]
     requires few { most ≤ 12 }
     requires cells { cells ≤ 12288 }
@@ -141,8 +142,8 @@ fn least_sums(rule: &Rule, cells: u32, most: u32) -> [Option<u32>; LEAST_SUMS]
     least
 }
 
-// Whether a sum of a period may reach a least one. None does where the greatest sum of what the values have above a base
-// is below what the least sum has above as many bases. The base is the lowest at which that can be told.
+// Whether a fold sum of a period may reach `least`. None does if the greatest sum above a base is less than `least`
+// less the bases of all rows. The base is the smallest one for which 16 bits can tell.
 fn may_reach(folder: &mut Folder, values: &[u32], least: u32, period: u32, halvings: u32) -> bool
     requires some_phases { 1 ≤ period }
     requires some_halvings { 1 ≤ halvings }
@@ -181,7 +182,7 @@ fn may_be_detected(folder: &mut Folder, values: &[u32], least: Option<u32>, of: 
     }
 }
 
-// Adds the detected folds of values at a period. All trials are folded only where one may be detected.
+// Adds the detected folds of values at a period. It folds all trials only if one may be detected.
 fn fold_period(
     book: &mut Book,
     folder: &mut Folder,
@@ -221,7 +222,7 @@ fn fold_period(
     judge_trials(book, folder, least, of);
 }
 
-/// Adds the detected folds of the values of a delay's series, over all periods of a search.
+/// Adds the detected folds of the series of a delay, over all periods of a search.
 pub(crate) fn fold_values(
     book: &mut Book,
     folder: &mut Folder,
@@ -252,7 +253,7 @@ pub(crate) fn fold_values(
     }
 }
 
-/// How many rows a fold has after so many halvings.
+/// The number of rows that a fold has after `halvings` halvings.
 pub fn fold_row_count(halvings: u32) -> u32
     requires { halvings ≤ 12 }
     ensures value { result ≡ 2 ^ halvings }

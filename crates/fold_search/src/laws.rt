@@ -1,7 +1,7 @@
-// A law of lists of candidates, which the contract of a function that does nothing carries.
+// A law of lists of candidates, as a function that does nothing.
 ghost use Rattle.fold_search.specs.Laws.{DelaysArePart};
 
-/// Of candidates that are listed delay by delay, those within some of the delays are those that are listed for these.
+/// Law: if candidates are listed delay by delay, those of some delays are those that are listed for these.
 pub fn delays_are_part()
     ensures { DelaysArePart }
 {}

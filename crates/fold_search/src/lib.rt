@@ -1,5 +1,4 @@
-//! The folds of a shard's delays: the series of the path sums of each, all trials of all periods, and a book of what is
-//! detected there.
+//! Folds the series of a shard's delays at all periods of a search, and adds the detected folds to a book.
 #![tactic(auto)]
 
 mod cells;

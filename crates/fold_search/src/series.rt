@@ -1,4 +1,4 @@
-// The front of a series.
+// The first values of a series.
 ghost use Rattle.std.specs.Prelude.{◌≡◌, ℕ, ◌≤◌, ◌<◌, ◌++◌, List, [], All, IfOk, length};
 ghost use Rattle.fold_search.specs.Series.{IsFrontOf};
 
@@ -6,7 +6,7 @@ use psr_base::Memory;
 use std::alloc::Global;
 use std::marker::Model;
 
-/// The first values of a series, as many as are ever used. Their memory is taken once.
+/// The first values of a series, as many as are used. `open` takes all memory.
 #[derive(Drop)]
 pub(crate) struct Series {
     values: Vec<u32>,
@@ -26,7 +26,7 @@ impl Model for Series {
 }
 
 impl Series {
-    /// No values, with memory for so many.
+    /// An empty series, with memory for `most` values.
     pub(crate) fn open(alloc: Global, most: usize) -> Result<Series, Memory>
         ensures { IfOk result (λ s. s ≡ record { most = most; values = [] }) }
     {
@@ -36,7 +36,7 @@ impl Series {
         })
     }
 
-    /// Takes the next values, as far as they are used.
+    /// Appends the next values, up to the number that is used.
     pub(crate) fn take(&mut self, row: &[u32])
         ensures room { self.new.most ≡ self.old.most }
         ensures front { (xs : List ℕ) → IsFrontOf self.old xs
@@ -49,7 +49,7 @@ impl Series {
         let _taken = self.values.extend_from_slice(&row[..used]);
     }
 
-    /// The values.
+    /// The values so far.
     pub(crate) fn values(&self) -> &[u32]
         ensures value { result.now ≡ self.now.values }
         ensures few { length result.now ≤ self.now.most }

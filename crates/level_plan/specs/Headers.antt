@@ -44,7 +44,7 @@ abbrev pub told_count : Field → HeaderText → Option ℕ
 told_count field header = if_count
     (option_and_then (number_value 0) (value_of (field_name field) (fields_of header.text)))
 
--- so many bytes are written of so many that are read
+-- as many bytes are written for `bytes_read` bytes that are read
 abbrev pub bytes_written : LevelOptions → Observation → ℕ
 bytes_written s o = written_bits s o / 8
 

@@ -35,7 +35,7 @@ usual_deviation s o = if s.is_fast then 2800 else (if o.nbit == 16 then 50000 el
 abbrev pub usual_most : LevelOptions → Observation → ℕ
 usual_most s o = if s.is_fast then 40 else (if o.nbit == 16 then 65535 else 255)
 
--- the greatest value of so many bits
+-- the greatest value of this number of bits
 abbrev pub most_of : ℕ → ℕ
 most_of bits = if bits == 16 then 65535 else 255
 

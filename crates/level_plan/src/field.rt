@@ -15,7 +15,7 @@ pub enum Field {
     TransferSize,
 }
 
-/// All of them, in the order in which they are changed.
+/// All such fields, in the order in which they are changed.
 pub(crate) const FIELDS: [Field; 7] = [
     Field::Tsamp,
     Field::Nbit,
@@ -27,7 +27,7 @@ pub(crate) const FIELDS: [Field; 7] = [
 ];
 
 impl Field {
-    /// Its keyword.
+    /// The keyword of the field.
     pub fn name(self) -> &'static str
         ensures name { result.now ≡ field_name self }
         ensures word { IsWord result.now }
@@ -44,7 +44,7 @@ impl Field {
         }
     }
 
-    /// With how many decimals it is written.
+    /// How many decimals its value is written with.
     pub(crate) fn decimals(self) -> u32
         ensures value { result ≡ field_decimals self }
         ensures most { result ≤ 3 }

@@ -17,15 +17,16 @@ use obs_plan::Observation;
 use psr_base::{Fixed, Memory};
 use std::alloc::Global;
 
-/// Why there is no header of a levelled file.
+/// Why a levelled file can't have a header.
 #[derive(Clone, Copy, Debug, PartialEq, Eq)]
 pub enum HeaderStop {
-    /// The changed text would fill the header: its length, and the size of the header.
+    /// The changed text doesn't fit into the header: the length that it needs, and the size of the header, both in
+    /// bytes.
     Overfull { need: usize, size: usize },
     Memory,
 }
 
-// The number of bytes that a text tells.
+// The number of bytes that a value gives, or `None` if it is no such number.
 fn count_in(text: &str) -> Option<u64>
     ensures { result ≡ if_count (number_value 0 text.now) }
 {
@@ -35,7 +36,7 @@ fn count_in(text: &str) -> Option<u64>
     }
 }
 
-// The number of bytes that a field tells.
+// The number of bytes that a field gives, or `None`.
 fn told(header: &Header, field: Field) -> Option<u64>
     ensures value { result ≡ told_count field header.now }
     ensures most { ForSome result (λ n. n ≤ 10 ^ 18) }
@@ -46,7 +47,8 @@ fn told(header: &Header, field: Field) -> Option<u64>
     }
 }
 
-// A number of bytes read as one of bytes written.
+// The number of bytes that are written for `count` bytes that are read. `None` if both numbers are the same, or `count`
+// is `None`.
 fn new_count(options: LevelOptions, observation: &Observation, count: Option<u64>) -> Option<u64>
     requires options { OptionsInRange options }
     requires count { ForSome count (λ n. n ≤ 10 ^ 18) }
@@ -65,7 +67,7 @@ fn new_count(options: LevelOptions, observation: &Observation, count: Option<u64
     }
 }
 
-// The number that a field gets, if it gets another.
+// The new number of a field, or `None` if it doesn't change.
 fn new_number(
     options: LevelOptions,
     observation: &Observation,
@@ -97,7 +99,7 @@ fn new_number(
     }
 }
 
-// The text of a number with so many decimals.
+// A number as text, with its last `decimals` digits behind the point.
 fn number_text(number: u64, decimals: u32) -> ArrayString<32>
     requires number { number ≤ 2 * 10 ^ 18 }
     requires decimals { decimals ≤ 3 }
@@ -109,7 +111,7 @@ fn number_text(number: u64, decimals: u32) -> ArrayString<32>
     text
 }
 
-// Gives a field its number, if it gets one.
+// Sets a field to its new number, if it has one.
 fn set(header: &mut Header, field: Field, number: Option<u64>) -> Result<(), SetFault>
     requires { ForSome number (λ n. n ≤ 2 * 10 ^ 18) }
     ensures ok { OnOk result (header.new ≡ with_number field number header.old) }
@@ -127,7 +129,7 @@ fn set(header: &mut Header, field: Field, number: Option<u64>) -> Result<(), Set
     }
 }
 
-// Gives each field of a header its number, if it gets one, as the first header tells it.
+// Sets each field of a header that changes to its new number. `first` is the header before any change.
 fn set_all(
     options: LevelOptions,
     observation: &Observation,
@@ -151,7 +153,7 @@ fn set_all(
     Ok(())
 }
 
-/// The header of the levelled file of an observation, which has this header.
+/// The header of the levelled file of an observation. `header` is the header of the observation.
 pub fn level_header(
     alloc: Global,
     options: LevelOptions,

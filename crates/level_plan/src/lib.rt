@@ -1,5 +1,5 @@
-//! What the options of `psr_level` make of an observation: how its data are levelled, which channels are masked, and
-//! the header of the levelled file.
+//! Turns the options of `psr_level` and an observation into a plan: how the data are levelled, which channels are
+//! masked, and the header of the levelled file.
 #![tactic(auto)]
 
 mod field;

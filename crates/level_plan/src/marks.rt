@@ -8,7 +8,7 @@ use obs_plan::Observation;
 use psr_base::Memory;
 use std::alloc::Global;
 
-// The channel with as many before it from the highest frequency on as channel `i` of the file has, or the other way round.
+// Turns a channel counted in the order of the file into one counted from the highest frequency, or the other way round.
 fn from_top(channels: u32, is_falling: bool, i: u32) -> u32
     requires { i < channels }
     ensures { result ≡ place_in_file channels is_falling i }
@@ -16,7 +16,7 @@ fn from_top(channels: u32, is_falling: bool, i: u32) -> u32
     if is_falling { i } else { channels - 1 - i }
 }
 
-/// The marks of the channels that a mask names, in the order of the file.
+/// The marks of the channels that a mask text names, in the order of the file. `mask` was read from that text.
 pub fn marks_in_file(
     alloc: Global,
     mask: &Mask,

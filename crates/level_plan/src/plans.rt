@@ -7,10 +7,10 @@ use band_level::{Format, Plan};
 use level_words::LevelOptions;
 use obs_plan::Observation;
 
-/// The longest time from one spectrum to the next that a search takes, in ns.
+/// The maximum time between two spectra that a search takes, in ns.
 const MOST_TSAMP: u64 = 1 << 30;
 
-/// How many bits are written of a value.
+/// How many bits a written value has: 8 or 16.
 pub(crate) fn written_bits(options: LevelOptions, observation: &Observation) -> u32
     ensures { result ≡ written_bits_of options observation.now }
 {
@@ -21,7 +21,7 @@ pub(crate) fn written_bits(options: LevelOptions, observation: &Observation) -> 
     }
 }
 
-// The mean, in thousandths, if none is given.
+// The mean to which data are levelled by default, in thousandths.
 fn usual_mean(options: LevelOptions, observation: &Observation) -> u32
     ensures { result ≡ usual_mean_of options observation.now }
 {
@@ -34,7 +34,7 @@ fn usual_mean(options: LevelOptions, observation: &Observation) -> u32
     }
 }
 
-// The deviation, in thousandths, if none is given.
+// The standard deviation to which data are levelled by default, in thousandths.
 fn usual_deviation(options: LevelOptions, observation: &Observation) -> u32
     ensures { result ≡ usual_deviation_of options observation.now }
 {
@@ -47,7 +47,7 @@ fn usual_deviation(options: LevelOptions, observation: &Observation) -> u32
     }
 }
 
-// The greatest value, if none is given.
+// The maximum of a written value by default.
 fn usual_most(options: LevelOptions, observation: &Observation) -> u32
     ensures { result ≡ usual_most_of options observation.now }
 {
@@ -77,7 +77,7 @@ pub fn format_of(options: LevelOptions, observation: &Observation) -> Format
     }
 }
 
-/// What they are levelled to. No value is greater than its bits can hold.
+/// How the data are levelled and written. The maximum is no greater than a written value can be.
 pub fn plan_of(options: LevelOptions, observation: &Observation) -> Plan
     requires { OptionsInRange options }
     ensures plan { result ≡ plan_for options observation.now }
@@ -99,7 +99,7 @@ pub fn plan_of(options: LevelOptions, observation: &Observation) -> Plan
     }
 }
 
-/// Whether a search takes spectra as long as the averaged ones are.
+/// Whether a search accepts the time between two averaged spectra.
 pub fn takes_time(options: LevelOptions, observation: &Observation) -> bool
     requires { OptionsInRange options }
     ensures { IsTrue result ↔ FitsTime options observation.now }

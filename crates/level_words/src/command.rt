@@ -1,4 +1,4 @@
-// What clap makes of the words.
+// The command line of psr_level, read by clap.
 ghost use Rattle.std.specs.Prelude.{◌≡◌, List, [], ◌∷◌, ◌++◌, map, string_bytes, IfOk, IfErr, false};
 ghost use Rattle.clap.specs.Words.{Rule, app_of, found_of, rows_of, rule_of, kind_of};
 ghost use Rattle.level_words.specs.Command.{option_rule, flag_rule, file_rule, command_with, level_command, matches_on, TakesWords};
@@ -32,7 +32,7 @@ fn option<'a>(alloc: Global, opt: Opt) -> Arg<'a>
     Arg::new(alloc, name).long(name)
 }
 
-// An option that takes none.
+// An option that takes no value.
 fn flag<'a>(alloc: Global, flag: Flag) -> Arg<'a>
     ensures rule { rule_of result ≡ flag_rule flag }
     ensures here { result.global ≡ false }
@@ -41,7 +41,7 @@ fn flag<'a>(alloc: Global, flag: Flag) -> Arg<'a>
     Arg::new(alloc, name).long(name).action(ArgAction::SetTrue)
 }
 
-// The names of files.
+// The argument for the names of files.
 fn file<'a>(alloc: Global) -> Arg<'a>
     ensures rule { rule_of result ≡ file_rule }
     ensures here { result.global ≡ false }
@@ -73,7 +73,7 @@ fn with_options<'a>(alloc: Global) -> Result<Command<'a>, AllocError>
     Ok(command)
 }
 
-// The command.
+// The command with all options and the names of files.
 fn command<'a>(alloc: Global) -> Result<Command<'a>, AllocError>
     ensures { IfOk result (λ c. app_of c ≡ level_command) }
 {
@@ -85,7 +85,7 @@ fn command<'a>(alloc: Global) -> Result<Command<'a>, AllocError>
     with_arg(command, file(alloc))
 }
 
-// The fault of an error of clap's.
+// The fault that an error of clap stands for.
 fn fault_of(error: Error) -> LevelFault
     ensures { result ≡ fault_of_kind (kind_of error) }
 {
@@ -95,7 +95,7 @@ fn fault_of(error: Error) -> LevelFault
     }
 }
 
-/// What clap finds in the words, of which the first is the program's name.
+/// What clap finds in the arguments `words`, of which the first is the program's name.
 pub(crate) fn matches_of<'a>(
     alloc: Global,
     words: &'a [String],

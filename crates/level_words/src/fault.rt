@@ -1,18 +1,19 @@
-// Why words are no settings.
+// Why arguments give no settings.
 use crate::opt::Opt;
 use std::alloc::AllocError;
 use thiserror::Error;
 
-/// Why words are no settings.
+/// Why arguments give no settings.
 #[derive(Clone, Copy, Debug, PartialEq, Eq, Drop, Error)]
 pub enum LevelFault {
-    /// There is an unknown word, one too many, or one is missing.
+    /// An argument is unknown, one is missing, or there is one too many.
     #[error("the words are refused")]
     Refused,
-    /// The first option, in the table's order, whose value is no number or out of its range; FILE if there are too many
-    /// names.
+    /// The first option, in the order of the table, whose value is no number or out of its range; `Opt::File` if there
+    /// are too many names of files.
     #[error("{} is out of range", .0.name())]
     OutOfRange(Opt),
+    /// There was no memory.
     #[error("out of memory")]
     Memory,
 }

@@ -1,5 +1,5 @@
-//! The settings of `psr_level`, read from its words by clap. The table of options, what the words say and why they are
-//! refused are defined in `specs/`.
+//! The settings of `psr_level`, read from its arguments by clap. The table of options, what arguments mean and why they
+//! are refused are defined in `specs/`.
 #![tactic(auto)]
 
 mod command;

@@ -4,7 +4,7 @@ ghost use Rattle.level_words.specs.Table.{option_name, option_row, flag_name};
 
 use option_rows::{Reader, Row};
 
-/// An option that takes a value, or the names of files.
+/// An option that takes a value; `File` stands for the names of files.
 #[derive(Clone, Copy, PartialEq, Eq, Debug)]
 pub enum Opt {
     Spectra,
@@ -41,7 +41,8 @@ pub enum Flag {
 }
 
 impl Opt {
-    /// Its name as the table of options has it, without dashes: `mean`, and `FILE` for the names of files.
+    /// The name of the option without its dashes, as in the table of options: `mean`. It is `FILE` for the names of
+    /// files.
     pub fn name(self) -> &'static str
         ensures { result.now ≡ option_name self }
     {
@@ -58,7 +59,7 @@ impl Opt {
         }
     }
 
-    /// Its row.
+    /// The row of the option in the table.
     pub(crate) fn row(self) -> Row
         ensures { result ≡ option_row self }
     {
@@ -77,7 +78,7 @@ impl Opt {
 }
 
 impl Flag {
-    /// Its name, without dashes.
+    /// The name of the flag without its dashes.
     pub fn name(self) -> &'static str
         ensures { result.now ≡ flag_name self }
     {

@@ -1,4 +1,4 @@
-// Reading the settings.
+// Reading the settings from the arguments.
 ghost use Rattle.std.specs.Prelude.{◌≡◌, [], ◌∷◌, map, string_bytes, IfOk, IfErr, None};
 ghost use Rattle.clap.specs.Walk.{texts};
 ghost use Rattle.clap.specs.Words.{found_of, rows_of};
@@ -17,7 +17,7 @@ use std::alloc::{AllocError, Global};
 // Laws: they do nothing when they run, and the proofs use what they ensure.
 use option_rows::{none_fails, values_are_allowed};
 
-// How the data are levelled.
+// The settings of the levelling.
 fn options_of(matches: &ArgMatches<'_>) -> LevelOptions
     ensures { result ≡ options_of_found (rows_of (found_of matches.now)) }
 {
@@ -35,7 +35,7 @@ fn options_of(matches: &ArgMatches<'_>) -> LevelOptions
     }
 }
 
-// The text of the mask.
+// The text that was given as the mask.
 fn mask_text(alloc: Global, matches: &ArgMatches<'_>) -> Result<String, AllocError>
     ensures { IfOk result (λ mask.
         string_bytes mask ≡ mask_text_of (rows_of (found_of matches.now))) }
@@ -46,7 +46,7 @@ fn mask_text(alloc: Global, matches: &ArgMatches<'_>) -> Result<String, AllocErr
     }
 }
 
-// Texts of one's own.
+// A copy of each name.
 fn copies(alloc: Global, files: &[&str]) -> Result<Vec<String>, AllocError>
     ensures { IfOk result (λ names. map string_bytes names.items ≡ texts files.now) }
 {
@@ -68,7 +68,7 @@ fn names_of(alloc: Global, matches: &ArgMatches<'_>) -> Result<Vec<String>, Allo
     }
 }
 
-// One transfer, that begins with the first file.
+// The starts of a single transfer, which begins with the first file.
 fn one_start(alloc: Global) -> Result<Vec<u32>, AllocError>
     ensures { IfOk result (λ starts. starts.items ≡ 0 ∷ []) }
 {
@@ -77,7 +77,7 @@ fn one_start(alloc: Global) -> Result<Vec<u32>, AllocError>
     Ok(starts)
 }
 
-// How the files are read.
+// The settings of the run that reads the files.
 fn run_settings(alloc: Global, matches: &ArgMatches<'_>) -> Result<RunSettings, AllocError>
     ensures { IfOk result (λ s. run_seen s ≡ run_of (rows_of (found_of matches.now))) }
 {
@@ -109,7 +109,7 @@ fn settings(alloc: Global, matches: &ArgMatches<'_>) -> Result<LevelSettings, Al
     })
 }
 
-/// The settings that the words say. The first word is the program's name.
+/// The settings that the arguments `words` give. The first of them is the program's name.
 pub(crate) fn read(alloc: Global, words: &[String]) -> Result<LevelSettings, LevelFault>
     ensures says { IfOk result (λ s. SayLevel (map string_bytes words.now) (level_seen s)) }
     ensures in_range { IfOk result (λ s. LevelInRange (level_seen s)) }

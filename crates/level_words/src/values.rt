@@ -11,7 +11,7 @@ ghost use Rattle.level_words.specs.Values.{option_value, option_number, given_nu
 use crate::opt::{Flag, OPTIONS, Opt};
 use clap::ArgMatches;
 
-/// The first text that was found under a name.
+/// The first text that clap found under a name.
 pub(crate) fn text<'a>(matches: &ArgMatches<'a>, name: &str) -> Option<&'a str>
     ensures { option_map (λ text. text.now) result
         ≡ first_of name.now (rows_of (found_of matches.now)) }
@@ -19,21 +19,21 @@ pub(crate) fn text<'a>(matches: &ArgMatches<'a>, name: &str) -> Option<&'a str>
     matches.get_str(name)
 }
 
-// The value of an option, if it is in its row.
+// The value of an option, or `None` if it is out of its range.
 fn value(matches: &ArgMatches<'_>, opt: Opt) -> Option<u64>
     ensures { result ≡ option_value (rows_of (found_of matches.now)) opt }
 {
     opt.row().value_of(text(matches, opt.name()))
 }
 
-/// The same as a number, which is 0 if the value is out of its row.
+/// The value of an option, or 0 if it is out of its range.
 pub(crate) fn number(matches: &ArgMatches<'_>, opt: Opt) -> u64
     ensures { result ≡ option_number (rows_of (found_of matches.now)) opt }
 {
     value(matches, opt).unwrap_or(0)
 }
 
-/// The same as a number of 32 bits.
+/// The value of an option as a number of 32 bits, or 0 if it is out of its range.
 pub(crate) fn small_number(matches: &ArgMatches<'_>, opt: Opt) -> u32
     requires { greatest_of (option_row opt).limits < 2 ^ 32 }
     ensures { result ≡ option_number (rows_of (found_of matches.now)) opt }
@@ -41,7 +41,7 @@ pub(crate) fn small_number(matches: &ArgMatches<'_>, opt: Opt) -> u32
     number(matches, opt) as u32
 }
 
-/// The number of an option, if it was given.
+/// The value of an option, or `None` if the option wasn't given.
 pub(crate) fn given(matches: &ArgMatches<'_>, opt: Opt) -> Option<u32>
     requires { greatest_of (option_row opt).limits < 2 ^ 32 }
     ensures { result ≡ given_number (rows_of (found_of matches.now)) opt }
@@ -52,7 +52,7 @@ pub(crate) fn given(matches: &ArgMatches<'_>, opt: Opt) -> Option<u32>
     }
 }
 
-// Whether a text is that of a flag that was given.
+// Whether the text that clap found under a flag says that the flag was given.
 fn is_true(text: Option<&str>) -> bool
     ensures { result ≡ option_map_or (λ word. bytes_eq word.now (codes "true")) text.entry false }
 {
@@ -69,7 +69,7 @@ pub(crate) fn has(matches: &ArgMatches<'_>, flag: Flag) -> bool
     is_true(text(matches, flag.name()))
 }
 
-/// The FILE words, if there are some.
+/// The names of the files, or `None` if there are none.
 pub(crate) fn files<'m, 'a>(matches: &'m ArgMatches<'a>) -> Option<&'m [&'a str]>
     ensures { option_map (λ files. texts files.now) result
         ≡ all_of (option_name Opt.File) (rows_of (found_of matches.now)) }
@@ -77,7 +77,7 @@ pub(crate) fn files<'m, 'a>(matches: &'m ArgMatches<'a>) -> Option<&'m [&'a str]
     matches.get_raw(Opt::File.name())
 }
 
-// Whether the names are as many as there may be.
+// Whether there are no more names than allowed.
 fn are_few(files: Option<&[&str]>) -> bool
     ensures { result ≡ option_map_or (λ files. nat_le 1 (length files.now)
         && nat_le (length files.now) 65535) files.entry false }

@@ -1,5 +1,5 @@
 -- The end of a search.
-use Rattle.std.proofs.Common.{◌≡◌, ℕ, ◌+◌, ◌≤◌, ◌<◌, ◌++◌, ◌&&◌, Bool, true, false, cond, leb, ltb, List, [], ◌∷◌, get_or, refl, sym, ◌∙◌, ap, subst, append-nil, arith, Ok, Err, Result}
+use Rattle.std.proofs.Common.{◌≡◌, ℕ, ◌≤◌, ◌<◌, ◌++◌, ◌&&◌, Bool, true, false, cond, leb, List, [], ◌∷◌, get_or, refl, sym, ◌∙◌, ap, subst, append-nil, arith, Ok, Err, Result}
 use Rattle.std.specs.Prelude.{All, filter, nat_lt}
 use Rattle.std.proofs.lemmas.Bool.{lt-ltb}
 use Rattle.std.proofs.lemmas.Bool.Decides.{nat_tests}

@@ -1,5 +1,5 @@
 -- A search that goes on from the checkpoint at the end of a part.
-use Rattle.std.proofs.Common.{◌≡◌, ℕ, zero, suc, ◌+◌, ◌-◌, ◌≤◌, ◌++◌, List, [], refl, sym, ◌∙◌, ap, append-nil, append_assoc, arith}
+use Rattle.std.proofs.Common.{◌≡◌, ℕ, zero, suc, ◌+◌, ◌≤◌, ◌++◌, List, [], refl, sym, ◌∙◌, ap, append-nil, append_assoc, arith}
 use Rattle.search_model.specs.declared.candidate.Candidate.{Candidate}
 use Rattle.search_model.specs.Parts.{check_line}
 use Rattle.warm_restart.specs.Checkpoint.{CanBeSaid}

@@ -12,3 +12,5 @@ pub mod Texts
 pub mod Growing
 pub mod GoingOn
 pub mod Plain
+pub mod MoreData
+pub mod Resuming

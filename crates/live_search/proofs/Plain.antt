@@ -1,7 +1,7 @@
 -- The text without its CHECK lines is that of one part.
-use Rattle.std.proofs.Common.{◌≡◌, ℕ, zero, suc, ◌+◌, ◌≤◌, ◌<◌, ◌++◌, Bool, false, cond, leb, ltb, min, List, [], ◌∷◌, length, refl, sym, ◌∙◌, ap, append-nil, append_assoc, arith}
+use Rattle.std.proofs.Common.{◌≡◌, ℕ, zero, suc, ◌+◌, ◌≤◌, ◌<◌, ◌++◌, inl, inr, Bool, false, cond, min, List, [], ◌∷◌, length, refl, sym, ◌∙◌, ap, append-nil, append_assoc, arith}
 use Rattle.std.specs.Prelude.{filter, nat_lt}
-use Rattle.std.proofs.lemmas.Bool.{le-leb, lt-ltb}
+use Rattle.std.proofs.lemmas.Bool.{cases_lt, le-leb, le-ltb, lt-ltb}
 use Rattle.std.proofs.lemmas.Bool.Decides.{nat_tests}
 use Rattle.std.proofs.lemmas.List.{length-append}
 use Rattle.std.proofs.lemmas.List.Concat.{flat_map-append}
@@ -18,8 +18,8 @@ use Rattle.search_model.specs.Parts.{PartsJoin, check_line, ends_within, part_te
 use Rattle.warm_restart.specs.declared.checkpoint.Checkpoint.{Checkpoint}
 use Rattle.warm_restart.specs.Joins.{PartTextsJoin}
 use Rattle.warm_restart.specs.Warm.{text_of_part}
-use Rattle.live_search.specs.LiveText.{Layout, after_parts, counted, end_mark, greatest_number, layout_of, lines_at, many_line, marked_parts, marked_text, next_after, next_end, no_mark, part_at, printed, pulse_lines}
-use Rattle.live_search.specs.Laws.{PrintsAll, PrintsAllOf, first_spectrum, plain_text}
+use Rattle.live_search.specs.LiveText.{Layout, after_parts, counted, end_mark, greatest_number, last_lines, layout_of, lines_at, many_line, marked_parts, marked_stop, marked_text, next_after, next_end, no_mark, part_at, printed, pulse_lines}
+use Rattle.live_search.specs.Laws.{PrintsAll, PrintsAllOf, first_spectrum, last_checkpoint, plain_text}
 use Rattle.live_search.proofs.Ending.{all_end}
 use Rattle.live_search.proofs.Counts.{at_later, at_next, at_none, count, next_past, place_before}
 
@@ -154,9 +154,9 @@ module _ (join : PartsJoin) (l : Layout) (some : 1 ≤ l.every) (from : Checkpoi
         plain_next n (plain_parts n (omega (arith, few))) (prints.parts n (omega (arith, few)))
         (omega (arith, place, small))
 
-    pub plain_is : marked_text no_mark l from spectra list
-        ≡ part_text l.labels spectra from.place spectra from.pulses list
-    plain_is =
+    -- all pulses are counted
+    pub last_count : (last_checkpoint l from spectra list).pulses ≡ from.pulses + length (upto spectra)
+    last_count =
         let part = within_part (at m).place spectra list in
         let is = plain_parts m (omega arith) in
         let later = place_within m (omega arith) in
@@ -164,8 +164,15 @@ module _ (join : PartsJoin) (l : Layout) (some : 1 ≤ l.every) (from : Checkpoi
         let pulses = is.pulses in
         let total = prints.count in
         let own = count_is l spectra part prints.last (at m).pulses (omega (arith, pulses, long, total)) in
-        let all : counted (at m).pulses (printed l.limit part) ≡ from.pulses + length (upto spectra) =
-        omega (arith, own, pulses, long) in
+        omega (arith, own, pulses, long)
+
+    pub plain_is : marked_text no_mark l from spectra list
+        ≡ part_text l.labels spectra from.place spectra from.pulses list
+    plain_is =
+        let part = within_part (at m).place spectra list in
+        let is = plain_parts m (omega arith) in
+        let later = place_within m (omega arith) in
+        let all : counted (at m).pulses (printed l.limit part) ≡ from.pulses + length (upto spectra) = last_count in
         let no : nat_lt spectra spectra ≡ false = grind (arith, nat_tests) in
         ap (λ ts. ts ++ (pulse_lines l.labels l.limit spectra part
         ++ end_mark spectra (counted (at m).pulses (printed l.limit part)))) is.text
@@ -178,6 +185,26 @@ module _ (join : PartsJoin) (l : Layout) (some : 1 ≤ l.every) (from : Checkpoi
         ∙ sym (ap (λ b. candidate_lines l.labels (upto spectra)
         ++ cond b (check_line spectra (from.pulses + length (upto spectra)))
         (end_line (from.pulses + length (upto spectra)) 0 spectra)) no)
+
+    -- data that stopped have the lines of their pulses
+    pub stop_is : marked_stop no_mark l from spectra list ≡ candidate_lines l.labels (upto spectra)
+    stop_is =
+        let part = within_part (at m).place spectra list in
+        let is = plain_parts m (omega arith) in
+        let later = place_within m (omega arith) in
+        let lines = last_lines no_mark l (at m) spectra list in
+        elim (cases_lt (at m).place spectra) [
+          | inl past ↦
+              ap (λ b. plain m ++ cond b lines []) (lt-ltb (at m).place spectra past)
+              ∙ ap (λ ts. plain m ++ ts) (append-nil (pulse_lines l.labels l.limit spectra part))
+              ∙ ap (λ ts. plain m ++ ts) (all_lines l spectra part prints.last)
+              ∙ ap (λ ts. ts ++ candidate_lines l.labels part) is.text
+              ∙ lines_more m spectra later
+          | inr here ↦
+              let same : (at m).place ≡ spectra = omega (arith, later, here) in
+              ap (λ b. plain m ++ cond b lines []) (le-ltb (at m).place spectra here)
+              ∙ append-nil (plain m) ∙ is.text ∙ ap (λ u. candidate_lines l.labels (upto u)) same
+        ]
 
 -- ---- of data bytes
 

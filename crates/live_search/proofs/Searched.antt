@@ -1,6 +1,6 @@
 -- What a book keeps of the candidates of an observation can be written.
-use Rattle.std.proofs.Common.{◌≡◌, ℕ, List, get_or, take, sym, ap, subst, arith}
-use Rattle.std.specs.Prelude.{All, filter}
+use Rattle.std.proofs.Common.{◌≡◌, ℕ, List, get_or, sym, ap, subst, arith}
+use Rattle.std.specs.Prelude.{All}
 use Rattle.std.proofs.lemmas.List.Elements.{All-filter, All-take, Contains-get_or}
 use Rattle.dada_model.specs.Observation.{Observation, edges}
 use Rattle.search_model.specs.declared.candidate.Candidate.{Candidate}

@@ -47,7 +47,7 @@ spectra_within o bytes until range few =
     omega (arith, count, most)
 
 -- more bytes have no fewer spectra
-quotients : (a b z : ℕ) → 0 < z → a ≤ b → a / z ≤ b / z
+pub quotients : (a b z : ℕ) → 0 < z → a ≤ b → a / z ≤ b / z
 quotients a b z some order =
     let below : b < b / z * z + z = lt-div-mul-add some in
     let split : (b / z + 1) * z ≡ b / z * z + z = omega arith in

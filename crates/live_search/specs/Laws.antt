@@ -10,7 +10,7 @@ use Rattle.warm_restart.specs.Checkpoint.{IsCheckpointText}
 use Rattle.warm_restart.specs.Counts.{greatest_count}
 use Rattle.warm_restart.specs.Warm.{text_of_part}
 use Rattle.warm_restart.specs.declared.checkpoint.Checkpoint.{Checkpoint}
-use Rattle.live_search.specs.LiveText.{Layout, after_parts, greatest_number, layout_of, lines_at, live_text, marked_parts, marked_text, next_after, next_end, no_mark, part_at, parts_before, stopped_text, text_so_far}
+use Rattle.live_search.specs.LiveText.{Layout, after_parts, greatest_number, layout_of, lines_at, live_text, marked_parts, marked_text, next_after, marked_stop, next_end, no_mark, part_at, parts_before, printed, pulse_lines, counted, stopped_text, text_so_far}
 use Rattle.live_search.specs.Live.{Task, so_far}
 
 -- ---- a text that grows
@@ -111,3 +111,58 @@ pub record LiveTextsArePlain : Type 0 where
   pub whole : (o : Observation) (s : Search) (every : ℕ) (bytes : List ℕ) → 1 ≤ every →
       s.fold_max < s.fold_min → PrintsAllOf o s every first_spectrum bytes →
       plain_text o s every first_spectrum bytes ≡ search_text o s bytes
+
+-- ---- going on where data stopped
+
+-- the pulses of the last part of so many spectra, and the checkpoint at its end
+abbrev pub last_part : Layout → Checkpoint → ℕ → List Candidate → List Candidate
+last_part l from spectra list =
+    within_part (after_parts l from list (parts_before l.every from.place spectra)).place spectra list
+
+abbrev pub last_checkpoint : Layout → Checkpoint → ℕ → List Candidate → Checkpoint
+last_checkpoint l from spectra list = record {
+  place = spectra;
+  pulses = counted (after_parts l from list (parts_before l.every from.place spectra)).pulses
+      (printed l.limit (last_part l from spectra list));
+}
+
+-- that of these data bytes, and the text of a search that stopped after them, without its CHECK lines
+abbrev pub stops_at : Observation → Search → ℕ → Checkpoint → List ℕ → Checkpoint
+stops_at o s every from bytes = last_checkpoint (layout_of o s every) from
+    (filterbank_of o bytes).spectra (candidates_of o s bytes)
+
+abbrev pub plain_stop : Observation → Search → ℕ → Checkpoint → List ℕ → List ℕ
+plain_stop o s every from bytes = marked_stop no_mark (layout_of o s every) from
+    (filterbank_of o bytes).spectra (candidates_of o s bytes)
+
+-- Where data stopped past the place of the checkpoint that a search went on from, its last line is the CHECK line of a
+-- checkpoint, and the text of that where its count can be said; and where they stopped no later, nothing was written.
+pub record LiveStopsAreSaid : Type 0 where
+  pub line : (l : Layout) (from : Checkpoint) (spectra : ℕ) (list : List Candidate) → 1 ≤ l.every →
+      from.place < spectra →
+      let last = last_checkpoint l from spectra list in
+      stopped_text l from spectra list
+      ≡ (marked_parts check_line l from list (parts_before l.every from.place spectra)
+      ++ pulse_lines l.labels l.limit spectra (last_part l from spectra list))
+      ++ check_line last.place last.pulses
+  pub read : (l : Layout) (from : Checkpoint) (spectra : ℕ) (list : List Candidate) →
+      spectra ≤ greatest_count → (last_checkpoint l from spectra list).pulses ≤ greatest_count →
+      let last = last_checkpoint l from spectra list in
+      IsCheckpointText (check_line last.place last.pulses) last
+  pub none : (l : Layout) (from : Checkpoint) (spectra : ℕ) (list : List Candidate) → 1 ≤ l.every →
+      spectra ≤ from.place → stopped_text l from spectra list ≡ []
+
+-- So a later search goes on from there, over all data of the observation, with the same settings: without CHECK lines
+-- its text behind that of the search that stopped is the text of one search of all, where that prints all pulses. So it
+-- is too where the later search stops.
+pub record LiveStopsGoOn (o : Observation) : Type 0 where
+  pub rest : (s : Search) (every : ℕ) (from : Checkpoint) (first more : List ℕ) → 1 ≤ every →
+      from.place < (filterbank_of o first).spectra → PrintsAllOf o s every from (first ++ more) →
+      plain_stop o s every from first
+      ++ plain_text o s every (stops_at o s every from first) (first ++ more)
+      ≡ plain_text o s every from (first ++ more)
+  pub again : (s : Search) (every : ℕ) (from : Checkpoint) (first more : List ℕ) → 1 ≤ every →
+      from.place < (filterbank_of o first).spectra → PrintsAllOf o s every from (first ++ more) →
+      plain_stop o s every from first
+      ++ plain_stop o s every (stops_at o s every from first) (first ++ more)
+      ≡ plain_stop o s every from (first ++ more)

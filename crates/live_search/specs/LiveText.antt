@@ -107,14 +107,17 @@ marked_text mark l from spectra list =
     marked_parts mark l from list n
     ++ last_lines end_mark l (after_parts l from list n) spectra list
 
--- The text of data that stopped early: the last line is the CHECK line of the spectra that came, where they came past
--- the last place.
-abbrev pub stopped_text : Layout → Checkpoint → ℕ → List Candidate → List ℕ
-stopped_text l from spectra list =
+-- The text of data that stopped early, each part with its mark: the last mark is that of the spectra that came, where
+-- they came past the last place.
+abbrev pub marked_stop : (ℕ → ℕ → List ℕ) → Layout → Checkpoint → ℕ → List Candidate → List ℕ
+marked_stop mark l from spectra list =
     let n = parts_before l.every from.place spectra in
     let at = after_parts l from list n in
-    marked_parts check_line l from list n
-    ++ (if nat_lt at.place spectra then last_lines check_line l at spectra list else [])
+    marked_parts mark l from list n
+    ++ (if nat_lt at.place spectra then last_lines mark l at spectra list else [])
+
+abbrev pub stopped_text : Layout → Checkpoint → ℕ → List Candidate → List ℕ
+stopped_text l from spectra list = marked_stop check_line l from spectra list
 
 -- The text so far, once so many spectra came: that of the parts that end before them; and where a part ends with them,
 -- its lines, before it is known whether more spectra follow.

@@ -1,4 +1,4 @@
-// What a header has for a key.
+// The value that a header has for a key.
 ghost use Rattle.std.specs.Prelude.{◌≡◌, ◌≤◌};
 ghost use Rattle.dada_model.specs.Fields.{fields_of};
 ghost use Rattle.dada_model.specs.Observation.{default as default_of, decimals as decimals_of};
@@ -8,17 +8,20 @@ use dada_header::Header;
 use dada_model::Key;
 use psr_base::{Fixed, NumberFault};
 
-/// What a header has for a key, in the units of the key's row.
+/// The value that a header has for a key, in the units of the key's row.
 #[derive(Clone, Copy)]
 pub(crate) enum Found {
-    /// No field, and the key has no default.
+    /// There is no field with the key, and the key has no default.
     Missing,
+    /// The value is no number.
     BadNumber,
+    /// The value is a number that is too large to be read.
     TooLarge,
+    /// The value, or the default of a key without a field.
     Number(i64),
 }
 
-// With how many decimals the number of a key is read.
+// The number of decimals with which the value of a key is read.
 fn decimals(key: Key) -> u32
     ensures value { result ≡ decimals_of key }
     ensures few { result ≤ 9 }
@@ -30,7 +33,7 @@ fn decimals(key: Key) -> u32
     }
 }
 
-// What a header has for a key that has no field.
+// The value of a key that has no field, if there is a default.
 fn default(key: Key) -> Option<i64>
     ensures { result ≡ default_of key }
 {
@@ -41,7 +44,7 @@ fn default(key: Key) -> Option<i64>
     }
 }
 
-/// What a header has for a key.
+/// The value that a header has for a key.
 pub(crate) fn find(header: &Header, key: Key) -> Found
     ensures { Says (fields_of header.now.text) key result }
 {

@@ -1,6 +1,5 @@
-//! What a header in the DADA form says of an observation: its numbers, or why it has none; the edges of its
-//! channels; dispersion measures; whether a later file's header belongs to it. And, for its users, the settings
-//! of a search, which `search_model` has.
+//! What a header in the DADA form says of an observation: its numbers, or why it has none; the edges of its channels;
+//! dispersion measures; whether a later file continues it. It also gives its users `Search`, the settings of a search.
 #![tactic(auto)]
 
 mod fault;

@@ -18,13 +18,13 @@ use dada_model::{
 use std::alloc::{AllocError, Global};
 use std::marker::Model;
 
-// The most channels of a band.
+// The largest number of channels of a band.
 const MOST_CHANNELS: u64 = 4096;
 
-// The greatest centre of a band, in Hz.
+// The highest centre of a band, in Hz.
 const MOST_CENTRE_HZ: u64 = 16_000_000_000;
 
-/// The numbers of an observation, in its units.
+/// The numbers of an observation, in their units.
 #[derive(Drop)]
 pub(crate) struct Numbers {
     pub(crate) channels: u32,
@@ -64,7 +64,7 @@ impl Model for Numbers {
 }
 
 impl Numbers {
-    /// The numbers of a header, or the first refusal.
+    /// The numbers of a header, or the first reason to refuse it.
     pub(crate) fn of(header: &Header) -> Result<Numbers, ObsFault>
         ensures ok { IfOk result (λ n. observation_of (fields_of header.now.text) ≡ Ok n) }
         ensures fault { IfErr result (IsRefusedFirst (fields_of header.now.text)) }
@@ -98,14 +98,14 @@ impl Numbers {
         })
     }
 
-    /// A law: these lie within the bounds of an accepted observation. It does nothing when it runs.
+    /// A law: the numbers lie within the bounds of an accepted observation. It does nothing when it runs.
     pub(crate) fn lies_in_range(&self)
         ensures { ObservationInRange self.now }
     {
         let _ = &self.channels;
     }
 
-    // The edge `k` in kHz, where 0 is the top of the band.
+    // Edge `k` in kHz. Edge 0 is the top of the band.
     fn edge(&self, k: u32) -> u32
         requires { k ≤ self.now.channels }
         ensures { result ≡ edge_of self.now k }
@@ -117,7 +117,7 @@ impl Numbers {
         ((top - below) / (2000 * channels)) as u32
     }
 
-    /// The edges of the channels in kHz, from the top of the band down.
+    /// The edges of the channels in kHz, from the top of the band down to its foot.
     pub(crate) fn edges(&self, alloc: Global) -> Result<Vec<u32>, AllocError>
         ensures { IfOk result (λ edges. edges.items ≡ edges_of self.now) }
     {
@@ -128,7 +128,7 @@ impl Numbers {
         Ok(edges)
     }
 
-    // What the band alone gives to a dispersion measure: 1 / (1/foot^2 - 1/top^2) in kHz^2, rounded down.
+    // The factor that the band gives to a dispersion measure: 1 / (1/foot^2 - 1/top^2) in kHz^2, rounded down.
     fn dispersion_span(&self) -> u128
         ensures { result ≡ dispersion_span_of self.now }
     {
@@ -138,7 +138,7 @@ impl Numbers {
         top * top * (foot * foot) / (top * top - foot * foot)
     }
 
-    /// The dispersion measure of a delay of `d` spectra, in thousandths of pc/cm^3, rounded down.
+    /// The dispersion measure of a delay of `d` spectra across the band, in thousandths of pc/cm^3, rounded down.
     pub(crate) fn dm(&self, d: u32) -> u64
         requires { d ≤ most_delay }
         ensures { result ≡ dm_of self.now d }
@@ -155,7 +155,7 @@ impl Numbers {
         self.npol * ((1 << self.nbit) - 1)
     }
 
-    /// What the header of a later file is compared with.
+    /// The values that the header of a later file is compared with.
     pub(crate) fn profile(&self) -> Profile
         ensures { result ≡ profile_of self.now }
     {

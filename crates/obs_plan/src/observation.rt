@@ -16,8 +16,8 @@ use dada_model::edges_fall;
 use std::alloc::Global;
 use std::marker::Model;
 
-/// What a header says of its data (keywords of the PSRDADA manual): how many channels a spectrum has, how a sample is
-/// written and how long it lasts, the frequencies of the channels, and how many data bytes came before.
+/// What a header says of its data, by keywords of the PSRDADA manual: the number of channels, how samples are written
+/// and how long they last, the frequencies of the channels, and how many data bytes came before.
 #[derive(Drop)]
 pub struct Observation {
     numbers: Numbers,
@@ -36,8 +36,9 @@ impl Model for Observation {
 }
 
 impl Observation {
-    /// The observation of a header, or the header's first refusal: for each keyword in turn that it is missing, no
-    /// number, or outside its row; last that a channel has less than 1 kHz. `Memory` may come instead, `Differs` never.
+    /// Reads the observation of a header, or the first reason to refuse it. For each keyword in turn it may be missing,
+    /// no number, or outside its range; last, a channel may be narrower than 1 kHz. `Memory` may come instead.
+    /// `Differs` never comes.
     pub fn of(alloc: Global, header: &Header) -> Result<Observation, ObsFault>
         ensures ok { IfOk result (λ o. observation_of (fields_of header.now.text) ≡ Ok o) }
         ensures bounds { IfOk result ObservationInRange }
@@ -55,21 +56,21 @@ impl Observation {
         self.numbers.lies_in_range();
     }
 
-    /// How many channels a spectrum has.
+    /// The number of channels of a spectrum.
     pub fn channels(&self) -> u32
         ensures { result ≡ self.now.channels }
     {
         self.numbers.channels
     }
 
-    /// How many bits each value of a sample has: 8 or 16.
+    /// The number of bits of each value: 8 or 16.
     pub fn nbit(&self) -> u32
         ensures { result ≡ self.now.nbit }
     {
         self.numbers.nbit
     }
 
-    /// How many polarisations a sample adds: 1 or 2.
+    /// The number of polarisations that are added to a sample: 1 or 2.
     pub fn npol(&self) -> u32
         ensures { result ≡ self.now.npol }
     {
@@ -93,14 +94,14 @@ impl Observation {
         self.edges.as_slice()
     }
 
-    /// Whether channel 0 of the file is the highest frequency: BW is negative.
+    /// Whether channel 0 of the file has the highest frequency, which is so if BW is negative.
     pub fn falling(&self) -> bool
         ensures { result ≡ self.now.is_falling }
     {
         self.numbers.falling
     }
 
-    /// How many bytes of data came before the file's.
+    /// How many bytes of data came before those of the file.
     pub fn obs_offset(&self) -> u64
         ensures { result ≡ self.now.obs_offset }
     {
@@ -114,14 +115,14 @@ impl Observation {
         self.numbers.max_sample()
     }
 
-    /// What the header of a later file is compared with.
+    /// The values that the header of a later file is compared with.
     pub fn profile(&self) -> Profile
         ensures { result ≡ profile_of self.now }
     {
         self.numbers.profile()
     }
 
-    /// The dispersion measure of a delay of `d` spectra across the band, in thousandths of pc/cm^3.
+    /// The dispersion measure of a delay of `d` spectra across the band, in thousandths of pc/cm^3, rounded down.
     pub fn dm(&self, d: u32) -> u64
         requires { d ≤ most_delay }
         ensures { result ≡ dm_of self.now d }

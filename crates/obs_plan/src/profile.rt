@@ -1,4 +1,4 @@
-// What the header of a later file is compared with.
+// The values that the header of a later file is compared with.
 ghost use Rattle.std.specs.Prelude.{◌≡◌};
 ghost use Rattle.dada_model.specs.Fields.{fields_of};
 ghost use Rattle.dada_model.specs.Observation.{number_of};
@@ -10,8 +10,8 @@ use crate::rows::is_within;
 use dada_header::Header;
 use dada_model::Key;
 
-/// The values that the headers of all files of an observation have, in the units of their keywords' rows: TSAMP
-/// in ns, FREQ and BW in Hz, BW with its sign.
+/// The values that the headers of all files of an observation have in common. TSAMP is in ns, FREQ and BW are in Hz,
+/// and BW has its sign.
 #[derive(Clone, Copy, PartialEq, Eq, Debug)]
 pub struct Profile {
     pub nchan: u32,
@@ -23,7 +23,7 @@ pub struct Profile {
     pub bw_hz: i64,
 }
 
-// Whether a header has a value for a key. A number that is too large to be read is another value than any.
+// Whether a header has this value for a key. A number that is too large to be read differs from every value.
 fn has_value(header: &Header, key: Key, value: i128) -> bool
     ensures { result ≡ has_value_of (number_of (fields_of header.now.text) key) value }
 {
@@ -33,7 +33,7 @@ fn has_value(header: &Header, key: Key, value: i128) -> bool
     }
 }
 
-// The OBS_OFFSET of a header, in its row.
+// The OBS_OFFSET of a header, if it is in its range.
 fn offset(header: &Header) -> Result<u64, ObsFault>
     ensures { result ≡ offset_or_fault (number_of (fields_of header.now.text) Key.ObsOffset) }
 {
@@ -47,7 +47,7 @@ fn offset(header: &Header) -> Result<u64, ObsFault>
 impl Profile {
     ghost use Rattle.obs_plan.specs.Later.{profile_values, later_offset_of};
 
-    // The values with their keys, in the order in which they are compared.
+    // The values with their keywords, in the order in which they are compared.
     fn values(&self) -> [(Key, i128); 7]
         ensures { result ≡ profile_values self.now }
     {
@@ -62,9 +62,11 @@ impl Profile {
         ]
     }
 
-    /// The OBS_OFFSET of a later file's header, in bytes, and 0 where it is missing. `Differs` names the first of the
-    /// seven keywords whose value is missing, no number or another one, where a missing NPOL or NDIM counts as 1; then
-    /// OBS_OFFSET may be no number or out of range. There is no other fault.
+    /// The OBS_OFFSET of a later header, in bytes, or 0 if it is missing.
+    ///
+    /// First the seven keywords are compared: `Differs` names the first one whose value is missing, no number or a
+    /// different one. A missing NPOL or NDIM counts as 1. Then OBS_OFFSET may be no number or out of range. No other
+    /// fault comes.
     pub fn later_offset(&self, later: &Header) -> Result<u64, ObsFault>
         ensures { result ≡ later_offset_of self.now (fields_of later.now.text) }
     {

@@ -1,4 +1,4 @@
-// The numbers of a header, each judged in its row.
+// The numbers of a header, each checked against the row of its keyword.
 ghost use Rattle.std.specs.Prelude.{◌≡◌, ℤ, ◌+◌, ◌*◌, ◌^◌, ◌<◌, ◌≤◌, ◌↔◌, IsTrue, Ok, pos, IfOk, IfErr, unsigned_abs};
 ghost use Rattle.dada_model.specs.Edges.{top_khz, most_centre_hz};
 ghost use Rattle.dada_model.specs.Fields.{fields_of};
@@ -13,10 +13,10 @@ use dada_model::Key;
 // A law: it does nothing when it runs, and the proofs use what it ensures.
 use dada_model::bands_in_row;
 
-// The greatest edge of a band, in kHz.
+// The highest edge of a band, in kHz.
 const TOP_KHZ: u64 = 1 << 24;
 
-// The fault of a value outside a key's row.
+// The fault of a number outside the row of its key.
 fn outside(key: Key) -> ObsFault
     ensures { IsObservationRefusal (λ refusal. refusal ≡ outside_of key) result }
 {
@@ -26,7 +26,7 @@ fn outside(key: Key) -> ObsFault
     }
 }
 
-// The number of a key, which may lie outside the key's row.
+// The number of a key, which may be outside the key's row.
 fn number(header: &Header, key: Key) -> Result<i64, ObsFault>
     requires { LargeIsOutside (fields_of header.now.text) key }
     ensures number { IfOk result (λ z. number_of (fields_of header.now.text) key ≡ Ok z) }
@@ -40,7 +40,7 @@ fn number(header: &Header, key: Key) -> Result<i64, ObsFault>
     }
 }
 
-/// Whether a number lies between two others, or is one of them.
+/// Whether a number lies between `least` and `most`, both included.
 pub(crate) fn is_within(least: i64, most: i64, number: i64) -> bool
     ensures { result ≡ is_within_of least most number }
 {
@@ -64,7 +64,7 @@ pub(crate) fn number_in(header: &Header, key: Key, least: u32, most: u64) -> Res
     }
 }
 
-/// NBIT: 8 or 16.
+/// The value of NBIT: 8 or 16.
 pub(crate) fn bits(header: &Header) -> Result<u64, ObsFault>
     ensures taken { IfOk result (λ n. IsTaken (fields_of header.now.text) Key.Nbit (pos n)) }
     ensures bounds { IfOk result (λ n. (8 ≤ n) × (n ≤ 16)) }
@@ -78,7 +78,7 @@ pub(crate) fn bits(header: &Header) -> Result<u64, ObsFault>
     }
 }
 
-// Whether a band has its foot at 1 kHz or above and its top at the greatest edge or below.
+// Whether the foot of a band is at 1 kHz or above, and its top at the highest edge or below.
 fn is_band(width_hz: u64, centre_hz: u64) -> bool
     requires width { width_hz ≤ 2 ^ 63 }
     requires centre { centre_hz ≤ most_centre_hz }
@@ -89,7 +89,7 @@ fn is_band(width_hz: u64, centre_hz: u64) -> bool
         && 2 * centre_hz + width_hz < 2000 * (TOP_KHZ + 1)
 }
 
-/// BW in Hz.
+/// The value of BW in Hz, if the band is one that is accepted.
 pub(crate) fn band(header: &Header, channels: u64, centre_hz: u64) -> Result<i64, ObsFault>
     requires channels { number_of (fields_of header.now.text) Key.Nchan ≡ Ok (pos channels) }
     requires some { 0 < channels }

@@ -4,7 +4,8 @@ use dada_header::{Header, SetFault};
 use std::alloc::Global;
 use std::test::Fail;
 
-// A text, a value that one field gets, and the text after that: a longer value has a line at the end.
+// Each line: a text, the new value of a field, and the changed text. If the new value is longer, it is in a line at the
+// end.
 const CHANGES: &str = "
  | 1 | BW 1;
 BW -200; | 1 | BW 1   ;
@@ -21,7 +22,7 @@ HDR_SIZE 4096;NCHAN 2;NBIT 8;NPOL 1;NDIM 1;TSAMP 64;FREQ 1400;BW -200;UTC_START 
             ,           ;OBS_OFFSET 0000000000000002;
 ";
 
-// Sets BW, or OBS_OFFSET of sixteen digits, to a value of graphic bytes without '#', and answers which.
+// Sets OBS_OFFSET if the value has sixteen digits, otherwise BW. Returns the keyword that was set.
 fn set_field(header: &mut Header, value: &str) -> Result<&'static str, SetFault> {
     match value {
         "0000000000000002" => {
@@ -43,7 +44,7 @@ fn header_of(alloc: Global, text: &str) -> Result<Header, Fail> {
     Ok(Header::read(alloc, bytes.as_slice())?)
 }
 
-// Whether the text of a line becomes the other.
+// Whether the first text of a line is changed into its second one.
 fn is_changed(alloc: Global, line: &'static str) -> Result<bool, Fail> {
     let [text, value, wanted, ..] = fields_of(line);
     let mut header = header_of(alloc, text)?;
@@ -65,14 +66,14 @@ fn a_field_is_set_where_it_stands_or_at_the_end(rt: HostRuntime) -> Result<(), F
 
 // ---- the lines of a recorded file
 
-// The three changes that a recorded file's header has.
+// Makes the three changes of the header of a recorded file.
 fn change_for_a_file(header: &mut Header) -> Result<(), SetFault> {
     header.set("OBS_OFFSET", "0000000000000002")?;
     header.set("FILE_NUMBER", "000000")?;
     header.set("FILE_SIZE", "0000000000000004")
 }
 
-// A header whose text has a length: the line of OBS_OFFSET, a comment, and the last line feed.
+// A header whose text is `len` bytes long: the line of OBS_OFFSET, a comment, and the last line feed.
 fn header_of_length(alloc: Global, len: usize) -> Result<Header, Fail> {
     let mut bytes = b"OBS_OFFSET 0\n#".to_vec(alloc)?;
     bytes.resize(len.saturating_sub(1), b'.')?;
@@ -81,7 +82,8 @@ fn header_of_length(alloc: Global, len: usize) -> Result<Header, Fail> {
     Ok(Header::read(alloc, bytes.as_slice())?)
 }
 
-// Whether the changes are answered so, and the header can be read again after them.
+// Whether the three changes of a header with a text of `len` bytes give `wanted`, and the header can be read again
+// after them.
 fn is_answered(alloc: Global, len: usize, wanted: Result<(), SetFault>) -> Result<bool, Fail> {
     let mut header = header_of_length(alloc, len)?;
     let answer = change_for_a_file(&mut header);

@@ -1,4 +1,4 @@
-// Streams and files that stand in for the system's, and record what they take.
+// Streams and files that stand in for those of the system, and record what they take.
 
 use std::alloc::{Allocator, Global};
 use std::cell::RefCell;
@@ -7,7 +7,7 @@ use std::fs::{File, Metadata, OpenOptions};
 use std::rt::Files;
 use std::{fs, io};
 
-/// The most bytes that a stream takes at once, or none where it is closed.
+/// The largest number of bytes that a stream takes at once, or `None` if it is closed.
 pub type Takes = Option<usize>;
 
 /// Streams that record what they take.
@@ -107,7 +107,7 @@ impl Eprint for Streams {
     }
 }
 
-/// A disk on which each file that is created is this one, and each folder that one.
+/// A disk on which each file that is created is `file`, and each folder is `folder`.
 #[derive(Drop)]
 pub struct Disk<'a> {
     pub rt: &'a HostRuntime,

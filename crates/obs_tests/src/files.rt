@@ -20,7 +20,7 @@ fn make<F: Files>(files: &mut F, name: &str, first: &str, second: &str) -> Resul
     files.finish()
 }
 
-// An answer where a refusal was wanted, and the other way round.
+// Fails if the call succeeded, and succeeds if the call failed.
 fn refused(answer: Result<(), Failed>) -> Result<(), Failed>
     ensures { OnOk result (IsErr answer) }
 {
@@ -30,7 +30,7 @@ fn refused(answer: Result<(), Failed>) -> Result<(), Failed>
     }
 }
 
-// Whether these files, and no others, stand there in this order, as `b abc, a de`.
+// Whether these files and no others were made, in this order: `b abc a de`.
 fn are_files(files: &MemFiles, wanted: &str) -> bool {
     if wanted.is_empty() {
         return files.count() == 0;
@@ -49,7 +49,7 @@ fn are_files(files: &MemFiles, wanted: &str) -> bool {
     rest.next().is_none()
 }
 
-// Makes three files, of eight bytes in all, between calls that must fail.
+// Makes three files, of eight bytes in all, and tries calls between them that must fail.
 fn make_three(files: &mut MemFiles) -> Result<(), Failed>
     requires { ¬ IsMaking files.old }
 {
@@ -65,7 +65,7 @@ fn make_three(files: &mut MemFiles) -> Result<(), Failed>
     refused(files.create("d"))
 }
 
-// Whether three files are made and stand in their order.
+// Whether the three files are made, in their order.
 fn stand_in_order(alloc: Global) -> bool {
     match MemFiles::open(alloc, 3, 8, &[]) {
         Ok(mut files) => {
@@ -80,7 +80,8 @@ fn files_in_memory_stand_in_order(rt: HostRuntime) {
     assert!(rt; stand_in_order(rt.alloc()));
 }
 
-// The call that fails: created, two pieces, finished; whether the file is made, and the files there are then.
+// Each line: the number of the call that fails (0 creates the file, 1 and 2 append, 3 finishes it), whether the file is
+// made, and the files that there are then.
 const FAILING: &str = "
 0 failed
 1 failed f
@@ -89,7 +90,7 @@ const FAILING: &str = "
 4 ok f abc
 ";
 
-// Whether the call of a line that fails leaves what stands after it.
+// Whether the call of a line fails and leaves the files that the line tells.
 fn is_left(alloc: Global, line: &'static str) -> bool {
     let (call, left) = line.split_once(' ').unwrap_or((line, ""));
     let (answer, wanted) = left.split_once(' ').unwrap_or((left, ""));
@@ -111,7 +112,7 @@ const LONG: &str = "0123456789abcdef0123456789abcdef0123456789abcdef0123456789ab
 
 const LONGER: &str = "0123456789abcdef0123456789abcdef0123456789abcdef0123456789abcdefx";
 
-// Makes files of the longest name and of the shortest, between a call that must fail.
+// Makes files of the longest and of the shortest name, and tries a call between them that must fail.
 fn make_long(files: &mut MemFiles) -> Result<(), Failed>
     requires { ¬ IsMaking files.old }
 {
@@ -133,7 +134,7 @@ fn a_name_in_memory_has_at_most_64_bytes(rt: HostRuntime) {
     assert!(rt; take_long(rt.alloc()));
 }
 
-// Makes calm files, two of them of one name.
+// Makes calm files, two of them with one name.
 fn make_calm() -> Result<(), Failed> {
     let mut files = CalmFiles::new();
     make(&mut files, "a", "ab", "c")?;
@@ -146,7 +147,8 @@ fn calm_files_take_all(rt: HostRuntime) {
     assert!(rt; make_calm().is_ok());
 }
 
-// Files of the system, of which the first has no name and one was there before, with `ok` where they are made.
+// Each line: the name of a file of the system, and `ok` if it is made. The first name is empty. One file existed
+// before.
 const REAL: &str = "
 outside_test_new ok
 outside_test_new
@@ -156,14 +158,14 @@ outside_test_no_folder/new
 .
 ";
 
-// Whether the file of a line is made where it says so.
+// Whether the file of a line is made exactly if the line says `ok`.
 fn is_made(rt: &HostRuntime, line: &'static str) -> bool {
     let [name, answer, ..] = words_of(line);
     let is_made = make(&mut RealFiles::new(rt), name, "ab\n", "c").is_ok();
     is_made == (answer == "ok")
 }
 
-// Whether a file holds these bytes.
+// Whether a file has these bytes.
 fn is_held(rt: &HostRuntime, name: &str, bytes: &str) -> bool {
     match fs::read(rt, name) {
         Ok(held) => held.as_slice() == bytes.as_bytes(),
@@ -188,8 +190,8 @@ fn real_files_are_made_new(rt: HostRuntime) -> Result<(), Fail> {
     Ok(())
 }
 
-// What a disk has as the file and the folder, and whether each append and `finish` goes well. No disk has `/dev/null`
-// to wait for, and `/dev/full` takes nothing.
+// Each line: the file and the folder of a disk, whether each append succeeds, and whether `finish` does. `/dev/null`
+// can't be synced, and `/dev/full` takes nothing.
 const DISKS: &str = "
 outside_test_disk . ok ok
 outside_test_disk /dev/null ok failed
@@ -197,7 +199,7 @@ outside_test_disk /dev/null ok failed
 /dev/full . failed failed
 ";
 
-// Whether two appends and `finish`, which is tried again where it fails, go as they should.
+// Whether two appends and `finish`, which is tried again if it fails, succeed or fail as they should.
 fn go_so<F: Files>(files: &mut F, appended: bool, finished: bool) -> Result<bool, Failed>
     requires { ¬ F.is_open files.old }
 {
@@ -211,7 +213,7 @@ fn go_so<F: Files>(files: &mut F, appended: bool, finished: bool) -> Result<bool
     Ok(first == appended && second == appended && is_finished == finished)
 }
 
-// Whether a file on the disk of a line goes as it says.
+// Whether a file on the disk of a line behaves as the line says.
 fn goes_so(rt: &HostRuntime, line: &'static str) -> bool {
     let [file, folder, appended, finished, ..] = words_of(line);
     let disk = Disk { rt, file, folder };

@@ -1,4 +1,4 @@
-// Files in memory and real ones, read through their trait.
+// Files in memory and of the system, read through their trait.
 use crate::lines::call_of;
 use psr_base::{
     CalmInputs, DataFault, Failed, Inputs, MemInputs, Memory, RealInputs, fill, read_from_memory,
@@ -32,7 +32,8 @@ impl<I: Inputs> Inputs for Trickle<I> {
     }
 }
 
-// The inputs, each step with what it gives, and a step after one that failed.
+// Each line: the inputs and the call that fails, then each step with its result. The last step shows that they go on
+// after a failure.
 const IN_MEMORY: &str = "
 held 0 | read a b: failed; read a b: abcde
 held 1 | read a b: failed; read a b: abcde
@@ -54,17 +55,17 @@ held | rest 8192 8192: 8192 bytes; rest 8193 8192: too long
 calm | read a c: abcde; byte a: a; byte b: ; byte c: ; byte _: ; byte a: a
 ";
 
-// Of inputs whose call 2 fails: the second file is opened, and then the read fails.
+// Steps for inputs whose call 2 fails: that opens the second file, and then reads it.
 const WHOLE: &str = "c 9: failed; a 9: failed; a 9: abcde; a 4: too long; b 0:";
 
-// Files of the system, of which one is opened more often than a process may have files open.
+// Steps for files of the system. One of them is opened more often than a process may have files open.
 const REAL: &str =
     "read outside_test_a outside_test_b: abcde; often outside_test_a: ; byte outside_test_a: a;\
     byte outside_test_b: ; byte outside_test_c: failed; byte .: failed";
 
 // ---- steps
 
-// Two bytes of one file and then the rest of them, and another is opened.
+// Reads two bytes of one file and then its rest, and opens another.
 fn read_in_steps<I: Inputs>(
     alloc: Global,
     inputs: &mut I,
@@ -81,7 +82,7 @@ fn read_in_steps<I: Inputs>(
     Ok(all)
 }
 
-// The first byte under the name, if there is one.
+// The first byte of the file, if it has one.
 fn read_byte<I: Inputs>(alloc: Global, inputs: &mut I, name: &str) -> Result<Vec<u8>, DataFault> {
     inputs.open(name)?;
     let mut byte = [0];
@@ -89,7 +90,7 @@ fn read_byte<I: Inputs>(alloc: Global, inputs: &mut I, name: &str) -> Result<Vec
     Ok(Vec::from_slice(alloc, &byte[..n])?)
 }
 
-// Opens a name again and again, each time in place of the last.
+// Opens a name `times` times, each time in place of the one before.
 fn open_often<I: Inputs>(inputs: &mut I, name: &str, times: u32) -> Result<(), Failed> {
     for _ in 0..times {
         inputs.open(name)?;
@@ -97,13 +98,13 @@ fn open_often<I: Inputs>(inputs: &mut I, name: &str, times: u32) -> Result<(), F
     Ok(())
 }
 
-// Parts a text at the first place of a sign, if there is one.
+// Splits a text at the first `sign`, if there is one.
 fn parts_of(text: &'static str, sign: char) -> (&'static str, &'static str) {
     let (front, back) = text.split_once(sign).unwrap_or((text, ""));
     (front.trim(), back.trim())
 }
 
-// What a step gives, where `_` is the name without a letter.
+// The bytes that a step gives. `_` stands for the empty name.
 fn bytes_of<I: Inputs>(
     alloc: Global,
     inputs: &mut I,
@@ -124,7 +125,7 @@ fn bytes_of<I: Inputs>(
     Ok(Vec::new(alloc))
 }
 
-// Whether these bytes, so many of them, or this fault are wanted.
+// Whether a result is as wanted: these bytes, a number of bytes, or a fault.
 fn is_wanted(given: &Result<Vec<u8>, DataFault>, wanted: &str) -> bool {
     match given {
         Ok(bytes) => match wanted.strip_suffix(" bytes") {
@@ -137,7 +138,7 @@ fn is_wanted(given: &Result<Vec<u8>, DataFault>, wanted: &str) -> bool {
     }
 }
 
-// Whether each step gives what stands after it.
+// Whether each step gives the result that stands after it.
 fn are_met<I: Inputs>(alloc: Global, inputs: &mut I, steps: &'static str) -> bool {
     for step in steps.split(';') {
         let (step, wanted) = parts_of(step, ':');
@@ -150,13 +151,13 @@ fn are_met<I: Inputs>(alloc: Global, inputs: &mut I, steps: &'static str) -> boo
 
 // ---- inputs
 
-// Puts a file of so many bytes under their number.
+// Puts a file of `number` bytes under the name `number`.
 fn put_bytes(alloc: Global, inputs: &mut MemInputs, number: &str) -> Result<(), Memory> {
     let bytes = vec![in alloc; 7u8; number.parse::<usize>().unwrap_or(0)]?;
     inputs.put(number, bytes.as_slice())
 }
 
-// The files a, which is put there twice, and b, and files of so many bytes.
+// The files `a`, which is put twice, `b`, and files whose names are their sizes in bytes. Call `failing` fails.
 fn held_files(alloc: Global, failing: u64) -> Result<MemInputs, Memory> {
     let mut inputs = MemInputs::open(alloc, &[failing])?;
     inputs.put("a", b"old")?;
@@ -176,7 +177,7 @@ fn calm_files(alloc: Global) -> Result<CalmInputs, Memory> {
     Ok(inputs)
 }
 
-// Whether the steps of calm inputs give what stands after them.
+// Whether each step gives the result that stands after it, with calm inputs.
 fn is_calm_met(alloc: Global, steps: &'static str) -> bool {
     match calm_files(alloc) {
         Ok(mut inputs) => are_met(alloc, &mut inputs, steps),
@@ -184,7 +185,7 @@ fn is_calm_met(alloc: Global, steps: &'static str) -> bool {
     }
 }
 
-// Whether the steps of a line, of inputs of which a call fails, give what stands after them.
+// Whether the steps of a line give their results, with inputs of which one call fails.
 fn is_met(alloc: Global, line: &'static str) -> bool {
     let (inputs, steps) = parts_of(line, '|');
     let (kind, failing) = parts_of(inputs, ' ');
@@ -207,7 +208,7 @@ fn files_in_memory_are_read(rt: HostRuntime) {
     }
 }
 
-// Whether whole files give what stands after them, and a limit.
+// Whether reading whole files, each with a limit, gives the results that stand after them.
 fn are_whole(alloc: Global, files: &'static str) -> bool {
     let Ok(mut inputs) = held_files(alloc, 2) else {
         return false;

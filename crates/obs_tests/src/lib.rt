@@ -1,6 +1,6 @@
-//! Tests of outside objects, in memory and for real, of number texts, of headers as files have them and changes of
-//! their fields, of observations and of later headers. There is nothing else here: a crate with tests is proved twice,
-//! so they stand apart from what they try.
+//! Tests of the outside world as objects, in memory and of the system; of number texts; of headers and the changes of
+//! their fields; of observations and of later headers. Nothing else is here: a crate with tests is proved twice, so the
+//! tests stand apart from what they test.
 #![tactic(auto)]
 
 #[cfg(test)]

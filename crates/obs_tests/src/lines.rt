@@ -1,10 +1,10 @@
-// Tables as text, a case on each line.
+// Tables of cases as texts, with one case on a line.
 use std::alloc::{AllocError, Global};
 
-// A number that no call of a case has.
+// The number of a call that is never made.
 const NEVER: u64 = 99;
 
-/// The words of a line. Those that it doesn't have are empty.
+/// The words of a line. Missing words are empty.
 pub(crate) fn words_of(line: &'static str) -> [&'static str; 5] {
     let mut words = [""; 5];
     for (i, word) in line.split_whitespace().enumerate() {
@@ -15,12 +15,12 @@ pub(crate) fn words_of(line: &'static str) -> [&'static str; 5] {
     words
 }
 
-/// The number of a call that fails, or that of none where no number stands there.
+/// The number of the call that fails, or of one that is never made if there is no number.
 pub(crate) fn call_of(number: &str) -> u64 {
     number.parse::<u64>().unwrap_or(NEVER)
 }
 
-/// The fields of a line, which `|` parts. Those that it doesn't have are empty.
+/// The fields of a line, which are separated by `|`. Missing fields are empty.
 pub(crate) fn fields_of(line: &'static str) -> [&'static str; 4] {
     let mut fields = [""; 4];
     for (i, field) in line.split('|').enumerate() {
@@ -31,7 +31,8 @@ pub(crate) fn fields_of(line: &'static str) -> [&'static str; 4] {
     fields
 }
 
-// The byte for which a sign stands in a text: line feeds, spaces at its ends, and bytes of no text.
+// The byte that a character of a text stands for: a line feed, a space at an end of the text, or a byte that isn't
+// ASCII.
 fn byte_of(sign: u8) -> u8 {
     match sign {
         b';' => b'\n',
@@ -42,7 +43,7 @@ fn byte_of(sign: u8) -> u8 {
     }
 }
 
-/// The bytes of a header: lines up to a place, the text there, and NUL after it up to a count of bytes.
+/// The bytes of a header with `count` bytes: lines up to `place`, the text, and NUL after it.
 pub(crate) fn bytes_of(
     alloc: Global,
     place: usize,

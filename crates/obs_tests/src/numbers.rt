@@ -1,8 +1,8 @@
-// Number texts as they are read and written.
+// Number texts, read and written.
 use arrayvec::ArrayString;
 use psr_base::{Fixed, NumberFault};
 
-// A text, which is not trimmed, how many decimals are read, and the number, `large`, or the place of what is bad.
+// Each line: a text (not trimmed), the number of decimals, and the result: the number, `large`, or `bad` and a place.
 const TEXTS: &str = "
 -200| 6 | -200000000
 .5| 3 | 500
@@ -36,7 +36,7 @@ const TEXTS: &str = "
 1000000000000000000000x| 0 | bad 22
 ";
 
-// A value, with how many decimals it is written, and its text.
+// Each line: a value, the number of decimals, and its text.
 const VALUES: &str = "
 -5 | 1 | -0.5
 5 | 0 | 5
@@ -48,7 +48,7 @@ const VALUES: &str = "
 -9223372036854775808 | 0 | -9223372036854775808
 ";
 
-// The number in the second field of a line, and what stands in the others.
+// The parts of a line. The second one is a number.
 fn parts_of(line: &str) -> (&str, u32, &str) {
     let (text, rest) = line.split_once('|').unwrap_or((line, ""));
     let (decimals, wanted) = rest.split_once('|').unwrap_or((rest, ""));
@@ -56,7 +56,7 @@ fn parts_of(line: &str) -> (&str, u32, &str) {
     (text, decimals.min(9), wanted.trim())
 }
 
-// Whether an answer is this number, `large` or `bad 3`.
+// Whether a result is as wanted: a number, `large`, or `bad 3`.
 fn is_wanted(answer: Result<i64, NumberFault>, wanted: &str) -> bool {
     match answer {
         Ok(number) => wanted.parse::<i64>() == Ok(number),
@@ -68,13 +68,13 @@ fn is_wanted(answer: Result<i64, NumberFault>, wanted: &str) -> bool {
     }
 }
 
-// Whether the text of a line is read as it says.
+// Whether the text of a line gives the result of the line.
 fn is_read(line: &str) -> bool {
     let (text, decimals, wanted) = parts_of(line);
     is_wanted(Fixed::read(text.as_bytes(), decimals.min(9)), wanted)
 }
 
-// Whether the value of a line is written as it says.
+// Whether the value of a line is written as its text.
 fn is_written(line: &str) -> bool {
     let (value, decimals, wanted) = parts_of(line);
     let Ok(value) = value.trim().parse::<i64>() else {

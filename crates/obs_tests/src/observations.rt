@@ -1,15 +1,15 @@
-// Observations of headers, and the headers of later files.
+// Observations of headers, and later headers.
 use crate::lines::words_of;
 use dada_header::Header;
 use obs_plan::{Key, ObsFault, Observation};
 use std::alloc::Global;
 
-// The lines of a header that is accepted. Of two fields with a keyword the first counts, so lines before these replace
-// them. A `;` ends a line, here and below, and that of a line before these stands at their head.
+// The lines of a header that is accepted. If a keyword has two fields, the first counts, so lines before these replace
+// them. Here and below a `;` ends a line; the one at the beginning ends the last line before these.
 const PLAIN: &str =
     ";HDR_SIZE 4096;NCHAN 2;NBIT 8;NPOL 1;NDIM 1;TSAMP 64;FREQ 1400;BW -200;OBS_OFFSET 0;";
 
-// Lines that stand before the plain ones, and the first refusal.
+// Each line: the lines before the plain ones, and the first refusal.
 const REFUSED: &str = "
 NCHAN 1 | out_of_range NCHAN
 NCHAN 4097 | out_of_range NCHAN
@@ -41,7 +41,7 @@ NCHAN 4096;BW 4.095999 | too_narrow 4095999 4096
 NCHAN 2 3;NCHAN;NBIT\t#;NBIT + | bad_number NBIT
 ";
 
-// All lines of a header, and the first refusal, or `accepted`.
+// Each line: all lines of a header, and the first refusal, or `accepted`.
 const WHOLE: &str = "
 | missing NCHAN
 NBIT 4;nchan 2; | missing NCHAN
@@ -53,7 +53,7 @@ NCHAN 2;NBIT 8;TSAMP 64;FREQ 1400;BW -200; | accepted
 BW -200;FREQ 1400;TSAMP 64;NBIT 16.9;NCHAN 2.9 | accepted
 ";
 
-// Lines that stand before the plain ones in a later header, and its offset or how it differs.
+// Each line: the lines before the plain ones in a later header, and its offset or the fault.
 const LATER: &str = "
 | 0
 OBS_OFFSET 4.9 | 4
@@ -77,7 +77,7 @@ OBS_OFFSET 1000000000000000000000000000000 | out_of_range OBS_OFFSET
 
 // ---- headers
 
-// The header of lines, and of more that stand after them.
+// The header with these lines and then `more`.
 fn header_of(alloc: Global, lines: &str, more: &str) -> Option<Header> {
     let mut bytes = Vec::new(alloc);
     for part in [lines, more] {
@@ -89,7 +89,7 @@ fn header_of(alloc: Global, lines: &str, more: &str) -> Option<Header> {
     Header::read(alloc, bytes.as_slice()).ok()
 }
 
-// The observation of lines before the plain ones.
+// The observation of a header with these lines before the plain ones.
 fn observation_of(alloc: Global, lines: &str) -> Option<Observation> {
     let header = header_of(alloc, lines, PLAIN)?;
     Observation::of(alloc, &header).ok()
@@ -109,7 +109,7 @@ fn key_of(name: &str) -> Option<Key> {
     }
 }
 
-// The width and the channels of `1999 2`.
+// The fault `TooNarrow` of a width in Hz and a number of channels, as `1999 2`.
 fn narrow_of(numbers: &str) -> Option<ObsFault> {
     let (bw, nchan) = numbers.split_once(' ')?;
     Some(ObsFault::TooNarrow {
@@ -118,7 +118,7 @@ fn narrow_of(numbers: &str) -> Option<ObsFault> {
     })
 }
 
-// The refusal of a word, and a keyword or numbers.
+// The fault of a text: its name, and a keyword or numbers.
 fn fault_of(text: &str) -> Option<ObsFault> {
     let (word, rest) = text.split_once(' ')?;
     if word == "too_narrow" {
@@ -143,7 +143,7 @@ fn fields_of(line: &str) -> (&str, &str) {
     (lines.trim(), wanted.trim())
 }
 
-// Whether the header of a line, with more lines after it, is refused or accepted as it says.
+// Whether the header of a line, with `more` after it, is refused or accepted as the line says.
 fn is_judged(alloc: Global, line: &str, more: &str) -> bool {
     let (lines, wanted) = fields_of(line);
     let Some(header) = header_of(alloc, lines, more) else {
@@ -175,7 +175,7 @@ fn a_keyword_is_missing(rt: HostRuntime) {
     }
 }
 
-// Whether a later header has the offset, or differs, as is wanted.
+// Whether a later header gives the wanted offset or fault.
 fn is_later(first: &Observation, later: &Header, wanted: &str) -> bool {
     match first.profile().later_offset(later) {
         Ok(offset) => wanted.parse::<u64>() == Ok(offset),
@@ -183,7 +183,7 @@ fn is_later(first: &Observation, later: &Header, wanted: &str) -> bool {
     }
 }
 
-// Whether the later header of a line has, with more lines after it.
+// Whether the later header of a line, with `more` after it, gives the offset or fault of the line.
 fn is_met(alloc: Global, line: &str, more: &str) -> bool {
     let (lines, wanted) = fields_of(line);
     let Some(first) = observation_of(alloc, "") else {
@@ -212,7 +212,8 @@ const WIDE: &str = "NCHAN 1024.9;NBIT 16.9;NPOL 2;TSAMP 64.0009;FREQ 1382;BW -40
 
 const RISING: &str = "BW 200;OBS_OFFSET -0.9";
 
-// The header, and an edge in kHz of a number, where there is one, or the dispersion measure in thousandths of a delay.
+// Each line: the header, then a number `k` and edge `k` in kHz, or a delay and its dispersion measure in thousandths of
+// pc/cm^3.
 const VALUES: &str = "
 wide edge 0 1582000
 wide edge 1024 1182000
@@ -226,7 +227,7 @@ wide dm 512 24975
 rising dm 1 104
 ";
 
-// Whether an observation has the edge, or the dispersion measure, of a number.
+// Whether an observation has the wanted edge, or the wanted dispersion measure.
 fn has(observation: &Observation, what: &str, number: u32, wanted: &str) -> bool {
     if what == "dm" {
         return wanted.parse::<u64>() == Ok(observation.dm(number.min(8192)));
@@ -237,7 +238,7 @@ fn has(observation: &Observation, what: &str, number: u32, wanted: &str) -> bool
     }
 }
 
-// Whether the observation of a line has the value that it says.
+// Whether the observation of a line has the value of the line.
 fn has_value(alloc: Global, line: &'static str) -> bool {
     let [name, what, number, wanted, ..] = words_of(line);
     let Ok(number) = number.parse::<u32>() else {
@@ -257,7 +258,7 @@ fn edges_and_delays_have_their_values(rt: HostRuntime) {
     }
 }
 
-// The channels of a spectrum, the bits and polarisations of a sample, and its greatest value.
+// The channels of a spectrum, the bits and polarisations of a sample, and the greatest sample.
 fn shape_of(observation: &Observation) -> (u32, u32, u32, u32) {
     (
         observation.channels(),
@@ -267,7 +268,7 @@ fn shape_of(observation: &Observation) -> (u32, u32, u32, u32) {
     )
 }
 
-// The time from one spectrum to the next, the bytes before the file's, whether the band falls, and its width.
+// The time from one spectrum to the next, the bytes before those of the file, whether the band falls, and its width.
 fn place_of(observation: &Observation) -> (u64, u64, bool, i64) {
     (
         observation.tsamp_ns(),
@@ -277,7 +278,7 @@ fn place_of(observation: &Observation) -> (u64, u64, bool, i64) {
     )
 }
 
-// Whether lines before the plain ones are read so.
+// Whether a header with these lines before the plain ones has this shape and place.
 fn are_read(
     alloc: Global,
     lines: &str,

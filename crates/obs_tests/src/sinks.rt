@@ -1,4 +1,4 @@
-// Streams in memory and real ones, written through their trait.
+// Sinks in memory and of the system, written through their trait.
 use crate::fakes::{Streams, Takes};
 use crate::lines::{call_of, words_of};
 use psr_base::{CalmSink, Failed, MemSink, RealSink, Sink, write_all, write_to_memory};
@@ -20,7 +20,7 @@ impl<S: Sink> Sink for Drip<S> {
     }
 }
 
-// "ab", then "cd", then "e", of which the first that fails ends it.
+// Writes "ab", then "cd", then "e", up to the first that fails.
 fn write_in_steps<S: Sink>(sink: &mut S) -> Result<(), Failed> {
     for piece in ["ab", "cd", "e"] {
         write_all(sink, piece.as_bytes())?;
@@ -30,7 +30,7 @@ fn write_in_steps<S: Sink>(sink: &mut S) -> Result<(), Failed> {
 
 // ---- in memory
 
-// The sink, its room and the call that fails (99: none); how writing ends, and what the sink then holds.
+// Each line: the sink, its room, the call that fails (99: none), how the writing ends, and what the sink then has.
 const IN_MEMORY: &str = "
 held 5 0 failed
 held 5 1 failed ab
@@ -48,12 +48,12 @@ drip 5 3 failed abc
 drip 5 5 ok abcde
 ";
 
-// Whether writing in steps ends as the word says.
+// Whether writing in steps ends as the answer says.
 fn ends_so<S: Sink>(sink: &mut S, answer: &str) -> bool {
     write_in_steps(sink).is_ok() == (answer == "ok")
 }
 
-// Whether a sink holds what a line says.
+// Whether the sink of a line ends with the bytes of the line.
 fn is_met(alloc: Global, line: &'static str) -> bool {
     let [kind, room, failing, answer, wanted] = words_of(line);
     let room = room.parse::<u32>().unwrap_or(0);
@@ -75,10 +75,10 @@ fn a_sink_holds_what_was_written_before_it_failed(rt: HostRuntime) {
     assert!(rt; write_in_steps(&mut CalmSink::new()).is_ok());
 }
 
-// Pieces for a sink with room for five bytes, of which call 1 fails, and whether each is taken.
+// Pieces for a sink with room for five bytes, of which call 1 fails, and whether each piece is taken.
 const PIECES: &str = "ab:ok, c:failed, cde:ok, :ok, f:failed";
 
-// Whether each piece is taken where `ok` stands after it, and the sink then holds the rest.
+// Whether exactly the pieces marked `ok` are taken, and the sink then has their bytes.
 fn are_taken(alloc: Global, pieces: &'static str) -> bool {
     let Ok(mut sink) = MemSink::open(alloc, 5, &[1]) else {
         return false;
@@ -100,7 +100,7 @@ fn a_sink_in_memory_takes_what_it_has_room_for(rt: HostRuntime) {
 
 // ---- streams
 
-// What a stream takes at once, if it takes anything, and what it took in the end.
+// Each line: how many bytes a stream takes at once, and what it has taken in the end.
 const STREAMS: &str = "
 closed nothing
 0 nothing
@@ -117,7 +117,7 @@ fn takes_of(word: &str) -> Takes {
     }
 }
 
-// Whether the streams took this output, and these notes.
+// Whether the streams have taken this output and these notes.
 fn took(streams: &Streams, output: &str, notes: &str) -> bool {
     let (Ok(given), Ok(noted)) = (streams.output(), streams.notes()) else {
         return false;
@@ -125,7 +125,7 @@ fn took(streams: &Streams, output: &str, notes: &str) -> bool {
     given.as_slice() == output.as_bytes() && noted.as_slice() == notes.as_bytes()
 }
 
-// Whether a stream gets each byte once.
+// Whether the stream of a line takes each byte once, or nothing.
 fn is_written(alloc: Global, line: &'static str) -> bool {
     let [takes, wanted, ..] = words_of(line);
     let wanted = if wanted == "whole" { "ab\ncde" } else { "" };
@@ -142,14 +142,14 @@ fn a_stream_gets_each_byte_once(rt: HostRuntime) {
     }
 }
 
-// Whether text is taken where the stream is open, and bytes that aren't text never are.
+// Whether UTF-8 is taken exactly if the stream is open, and other bytes never are.
 fn is_text_taken<S: Sink>(notes: &mut S, is_open: bool) -> bool {
     write_all(notes, b"ab\n").is_ok() == is_open
         && write_all(notes, b"\xff").is_err()
         && write_all(notes, "c\u{e9}d".as_bytes()).is_ok() == is_open
 }
 
-// Whether notes get the whole text.
+// Whether the notes get the whole text.
 fn is_noted(alloc: Global, takes: Takes, wanted: &str) -> bool {
     let streams = Streams::new(alloc, takes);
     is_text_taken(&mut RealSink::notes(&streams), takes.is_some()) && took(&streams, "", wanted)

@@ -1,10 +1,10 @@
-// Texts with the values that they give, and bytes with their sizes or refusals.
+// Texts of headers with the values that they give, and bytes with their sizes or refusals.
 use crate::lines::{bytes_of, fields_of};
 use dada_header::{Header, HeaderFault};
 use std::alloc::Global;
 use std::test::Fail;
 
-// A text, a keyword, and the value of the first field with it, or `-` where there is none.
+// Each line: a text, a keyword, and the value of its first field, or `-` if there is none.
 const VALUES: &str = "
 NCHAN 2; | NCHAN | 2
 NCHAN 2 | NCHAN | 2
@@ -37,8 +37,9 @@ NCHAN 2; | 2 | -
 UTC_START 2024-01-02-03:04:05;            ;OBS_OFFSET 0000000000000002; | UTC_START | 2024-01-02-03:04:05
 ";
 
-// A text, how many bytes there are, the size of the header or its first refusal, and where the text stands, if not at
-// the head: the line of HDR_SIZE is looked up in 4096 bytes, and a line that is cut there counts as it stands.
+// Each line: a text, the number of bytes, the size of the header or its first refusal, and the place of the text if it
+// isn't 0. The line of HDR_SIZE is looked for in the first 4096 bytes, and a line that is cut off there counts as it
+// is.
 const SIZES: &str = "
  | 0 | short 0
  | 4095 | short 4095
@@ -92,7 +93,7 @@ HDR_SIZE 8192 | 8192 | size 4096 | 4096
 ^ | 4097 | size 4096 | 4096
 ";
 
-// Whether the text of a line gives its value, and the header keeps its bytes.
+// Whether the text of a line gives the value of the line, and the header has the bytes that it was read from.
 fn gives_value(alloc: Global, line: &'static str) -> bool {
     let [text, key, wanted, ..] = fields_of(line);
     let Ok(bytes) = bytes_of(alloc, 0, text, 4096) else {
@@ -115,7 +116,7 @@ fn the_first_field_with_a_keyword_gives_its_value(rt: HostRuntime) {
     }
 }
 
-// The size of a header or its refusal, in a word and a number.
+// The size of a header or its refusal, as a name and a number.
 fn answer_of(answer: Result<Header, HeaderFault>) -> (&'static str, usize) {
     match answer {
         Ok(header) => ("size", header.size()),
@@ -126,7 +127,7 @@ fn answer_of(answer: Result<Header, HeaderFault>) -> (&'static str, usize) {
     }
 }
 
-// Whether the bytes of a line have its size or its refusal.
+// Whether the bytes of a line give the size or the refusal of the line.
 fn is_answered(alloc: Global, line: &'static str) -> bool {
     let [text, count, wanted, place] = fields_of(line);
     let place = place.parse::<u32>().unwrap_or(0) as usize;
@@ -149,7 +150,7 @@ fn bytes_have_a_size_or_their_first_refusal(rt: HostRuntime) {
     }
 }
 
-// Whether a header that was read again holds these bytes, and keeps them where they are refused then.
+// Whether a header that is read again has these bytes, and keeps them when other bytes are refused.
 fn is_read_again(header: &mut Header, bytes: &[u8]) -> Result<bool, Fail> {
     header.read_again(bytes)?;
     let fault = header.read_again(b"NCHAN 3\n");
@@ -160,7 +161,7 @@ fn is_read_again(header: &mut Header, bytes: &[u8]) -> Result<bool, Fail> {
     )
 }
 
-// Whether a header that was copied from another holds its bytes.
+// Whether a header that is copied from another has the bytes of that one.
 fn is_copied(alloc: Global, header: &mut Header, bytes: &[u8]) -> Result<bool, Fail> {
     header.copy_from(&Header::read(alloc, bytes)?);
     Ok(header.bytes() == bytes)

@@ -2,12 +2,12 @@
 // function.
 ghost use Rattle.option_rows.specs.Laws.{ValuesAreAllowed, NoneFails};
 
-/// A value in a row is a number that its limits allow, where they allow the one that stands without a word.
+/// If the limits of a row allow its default, the value of an option in that row is a number that they allow.
 pub fn values_are_allowed()
     ensures { ValuesAreAllowed }
 {}
 
-/// Where none of some options is the first that fails a test, each passes it.
+/// If no option is the first of a list that fails a test, each of the list passes it.
 pub fn none_fails<O>()
     ensures { NoneFails O }
 {}

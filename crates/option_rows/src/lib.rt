@@ -1,5 +1,4 @@
-//! Rows of tables of options: how a value is read, which numbers it may be, and which one stands where no word gives
-//! one.
+//! Rows of tables of options: how a value is read, which numbers it may be, and the default.
 #![tactic(auto)]
 
 mod laws;

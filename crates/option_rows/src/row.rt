@@ -5,26 +5,34 @@ ghost use Rattle.option_rows.specs.Rows.{number_read, limits_allow, value_in_row
 use dada_model::whole_number;
 use psr_base::Fixed;
 
-/// How a value is read: as 1 to 19 digits, or as a number with so many decimals, in units of the last of them.
+/// How a value is read.
 #[derive(Clone, Copy)]
 pub enum Reader {
+    /// As 1 to 19 decimal digits.
     Whole,
+    /// As a number with this many decimals, at most 9, in units of the last of them.
     Decimals(u32),
 }
 
-/// Which numbers are values: those between two, two alone, or the widths of boxes.
+/// Which numbers are allowed as a value.
 #[derive(Clone, Copy)]
 pub enum Limits {
+    /// Those from the first to the second, both included.
     Between(u64, u64),
+    /// These two alone.
     Either(u64, u64),
+    /// The widths of boxes: 1, 2, 4, 8, 16 and 32.
     BoxWidth,
 }
 
-/// An option's row: how its value is read, which numbers it may be, and which one stands where no word gives one.
+/// The row of an option in a table.
 #[derive(Clone, Copy)]
 pub struct Row {
+    /// How a value is read.
     pub reader: Reader,
+    /// Which numbers are allowed.
     pub limits: Limits,
+    /// The value if the option isn't given.
     pub default: u64,
 }
 
@@ -39,7 +47,7 @@ fn allows(limits: Limits, number: u64) -> bool
     }
 }
 
-// A number that the limits allow.
+// The number, if the limits allow it.
 fn allowed(limits: Limits, number: u64) -> Option<u64>
     ensures { result ≡ if_allowed limits (pos number) }
 {
@@ -50,7 +58,7 @@ fn allowed(limits: Limits, number: u64) -> Option<u64>
     }
 }
 
-// The value of a text of digits alone, where the limits allow it.
+// The value of a text of 1 to 19 digits, if the limits allow it.
 fn whole_value(limits: Limits, text: &str) -> Option<u64>
     ensures { result ≡ value_in_row (record { reader = Reader.Whole; limits = limits; default = 0 })
         text.now }
@@ -61,7 +69,7 @@ fn whole_value(limits: Limits, text: &str) -> Option<u64>
     }
 }
 
-// The value of a text with decimals, where the limits allow it.
+// The value of a text with `decimals` decimals, if the limits allow it.
 fn decimal_value(limits: Limits, decimals: u32, text: &str) -> Option<u64>
     requires decimals { decimals ≤ 9 }
     requires bound { greatest_of limits ≤ 10 ^ 18 }
@@ -74,7 +82,7 @@ fn decimal_value(limits: Limits, decimals: u32, text: &str) -> Option<u64>
     }
 }
 
-// The value of a text in a row, where it has one.
+// The value of a text by a row, if it has one.
 fn value_in(row: Row, text: &str) -> Option<u64>
     requires { FitsReader row }
     ensures { result ≡ value_in_row row text.now }
@@ -88,7 +96,7 @@ fn value_in(row: Row, text: &str) -> Option<u64>
 impl Row {
     ghost use Rattle.option_rows.specs.Rows.{row_between, value_of_word};
 
-    /// A row of numbers between two others.
+    /// The row of an option whose values are the numbers from `least` to `most`.
     pub fn between(reader: Reader, least: u64, most: u64, default: u64) -> Row
         ensures { result ≡ row_between reader least most default }
     {
@@ -99,7 +107,8 @@ impl Row {
         }
     }
 
-    /// The value of the word that was given, where it is in the row, or the one that stands without a word.
+    /// The value of an option: that of `word`, if it is one by this row, or the default if there is no `word`. `None`
+    /// if `word` is no allowed value.
     pub fn value_of(self, word: Option<&str>) -> Option<u64>
         requires { FitsReader self }
         ensures { result ≡ value_of_word self (option_map (λ text. text.now) word.entry) }

@@ -1,5 +1,5 @@
 -- What appends make that follow one another.
-use Rattle.std.proofs.Common.{◌≡◌, ℕ, ◌+◌, ◌-◌, ◌<◌, List, [], ◌++◌, length, take, drop, Option, Some, None, ap, sym, subst, refl, ◌∙◌, append_assoc, append-nil, length-append, arith}
+use Rattle.std.proofs.Common.{◌≡◌, ℕ, ◌+◌, ◌-◌, ◌<◌, List, ◌++◌, length, take, drop, Option, Some, None, ap, sym, subst, refl, ◌∙◌, append_assoc, length-append, arith}
 use Rattle.std.specs.Option.{option_map}
 use Rattle.psr_base.specs.Count.{Rose}
 use Rattle.psr_base.specs.Made.{NamedBytes, Made, FilesLeft, FilesSeen, AppendedAll, AppendedFront, longer_by, less_bytes}
@@ -35,24 +35,6 @@ left-pieces : (xs ys : List ℕ) (old middle new : Option FilesLeft) →
     new ≡ option_map (less_bytes (length (xs ++ ys))) old
 left-pieces xs ys old middle new first second = second ∙ ap (option_map (less_bytes (length ys))) first
     ∙ less_bytes-less_bytes xs ys old
-
--- nothing was appended
-made-nothing : (made : Option Made) → made ≡ option_map (longer_by []) made
-made-nothing None = refl
-made-nothing (Some made) =
-    ap (λ (file : Option NamedBytes). Some (record made { unfinished = file })) (by_file made.unfinished)
-  where
-    by_file : (file : Option NamedBytes) →
-        file ≡ option_map (λ (f : NamedBytes). record f { bytes = f.bytes ++ [] }) file
-    by_file None = refl
-    by_file (Some file) = ap (λ (bytes : List ℕ). Some (record file { bytes = bytes })) (sym (append-nil file.bytes))
-
-left-nothing : (left : Option FilesLeft) → left ≡ option_map (less_bytes 0) left
-left-nothing None = refl
-left-nothing (Some left) = ap (λ (n : ℕ). Some (record left { bytes = n })) (omega arith)
-
-pub AppendedAll-nothing : (seen : FilesSeen) → AppendedAll [] seen seen
-AppendedAll-nothing seen = record { made = made-nothing seen.made; left = left-nothing seen.left; faults = refl }
 
 pub AppendedAll-joins : (xs ys : List ℕ) (old middle new : FilesSeen) → AppendedAll xs old middle →
     AppendedAll ys middle new → AppendedAll (xs ++ ys) old new

@@ -5,7 +5,7 @@ ghost use Rattle.psr_base.specs.Count.{next_count};
 use crate::faults::{Failed, Memory};
 use std::alloc::Global;
 
-/// How many calls have failed. The count goes no further than the greatest u64.
+/// How many calls have failed. The count stops at the largest u64.
 #[derive(Clone, Copy, Debug)]
 pub(crate) struct Faults {
     count: u64,
@@ -18,7 +18,7 @@ impl Faults {
         Faults { count: 0 }
     }
 
-    /// Counts a fault, and gives the answer that tells of it.
+    /// Counts a fault, and returns the error that reports it.
     pub(crate) fn fault(&mut self) -> Failed
         ensures next { self.new.count ≡ next_count self.old.count }
         ensures never_falls { self.old.count ≤ self.new.count }
@@ -28,7 +28,7 @@ impl Faults {
     }
 }
 
-/// The calls of an object in memory: which are to fail, how many there were, and how many failed.
+/// The calls of an object in memory: which of them are to fail, how many there were, and how many failed.
 #[derive(Drop)]
 pub(crate) struct Calls {
     fail: Vec<u64>,
@@ -49,7 +49,7 @@ impl Calls {
         })
     }
 
-    /// Counts a call, which fails where its number is to fail.
+    /// Counts a call. It fails if its number is in the list of those that are to fail.
     pub(crate) fn begin(&mut self) -> Result<(), Failed>
         ensures fails { IsErr result ↔ Contains self.old.fail.items self.old.number }
         ensures number { self.new.number ≡ next_count self.old.number }
@@ -66,7 +66,7 @@ impl Calls {
         Ok(())
     }
 
-    /// Counts a fault of a call that has begun.
+    /// Counts a fault of a call that `begin` let through.
     pub(crate) fn fault(&mut self) -> Failed
         ensures number { self.new.number ≡ self.old.number }
         ensures fail { self.new.fail.items ≡ self.old.fail.items }

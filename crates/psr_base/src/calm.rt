@@ -3,12 +3,12 @@ use crate::faults::Failed;
 use crate::files::Files;
 use crate::sink::Sink;
 
-/// A stream that takes all bytes and tells nothing of them.
+/// A sink that takes all bytes and tells nothing of them. It never fails.
 #[derive(Clone, Copy, Debug, Default)]
 pub struct CalmSink;
 
 impl CalmSink {
-    /// A stream that has taken nothing.
+    /// A sink that has taken nothing.
     pub fn new() -> CalmSink {
         CalmSink
     }
@@ -26,14 +26,14 @@ impl Sink for CalmSink {
     }
 }
 
-/// Files that take all bytes and tell nothing of them.
+/// Files that take all bytes and tell nothing of them. They never fail.
 #[derive(Debug, Drop)]
 pub struct CalmFiles {
     is_open: bool,
 }
 
 impl CalmFiles {
-    /// No file is open.
+    /// Files of which none is open.
     pub fn new() -> CalmFiles
         ensures { ¬ ⟦<CalmFiles as Files>⟧.is_open result }
     {

@@ -4,7 +4,7 @@ use crate::held::HeldFiles;
 use crate::inputs::Inputs;
 use std::alloc::Global;
 
-/// Files in memory, which never fail. A name that isn't there reads as an empty file.
+/// Files in memory, which never fail. A name that isn't there is read as an empty file.
 #[derive(Drop)]
 pub struct CalmInputs {
     files: HeldFiles,
@@ -15,7 +15,7 @@ impl CalmInputs {
     ghost use Rattle.std.specs.Prelude.{◌≡◌, ◌≢◌, ℕ, List, [], None, Some, IfOk, OnOk, OnErr};
     ghost use Rattle.psr_base.specs.InMemory.{calm_told, IsCalmOpen};
 
-    /// No files.
+    /// Inputs without any file.
     pub fn open(alloc: Global) -> Result<CalmInputs, Memory>
         ensures empty { IfOk result (λ inputs.
             (name : List ℕ) → (calm_told inputs).bytes_under name ≡ None) }
@@ -28,8 +28,8 @@ impl CalmInputs {
         })
     }
 
-    /// Puts the bytes under the name, in place of those that stood there. The file that is open
-    /// stays open, at its place.
+    /// Puts `bytes` under `name`, in place of those that stood there. If a file is open, it stays open, and its place
+    /// stays the same.
     pub fn put(&mut self, name: &str, bytes: &[u8]) -> Result<(), Memory>
         ensures put { OnOk result ((calm_told self.new).bytes_under name.now ≡ Some bytes.now) }
         ensures others { OnOk result ((other : List ℕ) → other ≢ name.now

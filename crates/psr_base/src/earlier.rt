@@ -6,7 +6,7 @@ ghost use Rattle.psr_base.specs.Earlier.{with_one_more};
 
 use std::marker::{Model, PhantomData};
 
-/// The files that were read, in order. It takes no memory, and its calls do nothing when they run.
+/// The files that were read before, in order. It takes no memory, and its calls do nothing when they run.
 #[derive(Drop)]
 pub(crate) struct Earlier {
     marker: PhantomData<u8>,
@@ -17,7 +17,7 @@ impl Model for Earlier {
     ghost also_owns = { λ _. ftrue };
 }
 
-// It owns nothing.
+// It owns nothing, so it may be sent to another thread.
 unsafe impl Send for Earlier {}
 
 impl Earlier {
@@ -29,12 +29,12 @@ impl Earlier {
         }
     }
 
-    // The numbers are the place and 1 where the end was seen.
+    // `numbers` are the place, and 1 if the end was seen.
     fn note(&mut self, _numbers: &[u64], _name: &[u8])
         ensures { self.new.files ≡ with_one_more _name.now _numbers.now self.old.files }
     {}
 
-    /// One more was read, to this place, and to its end or not.
+    /// Adds a file that was read up to `place`. `ended` says whether its end was seen.
     pub(crate) fn add(&mut self, name: &str, place: usize, ended: bool)
         ensures { self.new.files
             ≡ self.old.files ++ record { name = name.now; place = place; ended = ended } ∷ [] }

@@ -1,8 +1,8 @@
-// Answers that name a refusal and carry nothing else.
+// Errors that carry nothing.
 use std::alloc::{AllocError, AllocFailed};
 use thiserror::Error;
 
-/// An outside object failed. Its count of faults tells that it did.
+/// A call of an outside object failed. The object has counted it among its faults.
 #[derive(Clone, Copy, Debug, PartialEq, Eq, Error)]
 #[error("an outside object failed")]
 pub struct Failed;

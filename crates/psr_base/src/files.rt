@@ -1,4 +1,4 @@
-// What is recorded to.
+// What data are recorded to.
 ghost use Rattle.std.specs.Prelude.{◌≤◌, ◌<◌, length, take, IfOk, OnOk, OnErr, IsOk, IsErr, IsSome};
 ghost use Rattle.std.specs.Option.{ForSome};
 ghost use Rattle.psr_base.specs.Made.{FilesSeen, HasName, Created, AppendedAll, Finished, MakingFails, CanCreate};
@@ -7,16 +7,16 @@ use crate::faults::Failed;
 
 /// Files that are made one after another: each is created, written and finished before the next.
 ///
-/// A call that fails leaves what is told as it was, and a file that isn't finished stays so.
+/// A call that fails leaves what the object tells as it was. An unfinished file stays unfinished.
 pub trait Files {
-    /// The files made so far and what is left of files and bytes, where they are told, and how many
-    /// calls have failed. That count goes no further than the greatest u64.
+    /// The files made so far and the files and bytes that there is room for, both if they are told, and how many calls
+    /// have failed. That count stops at the largest u64.
     ghost seen: { Self → FilesSeen };
 
-    /// A file was created and isn't finished.
+    /// Whether a file was created and isn't finished.
     ghost is_open: { Self → Type 0 };
 
-    /// Creates an empty file under a name that isn't there.
+    /// Creates an empty file. `name` must be new: a name that is there is refused.
     fn create(&mut self, name: &str) -> Result<(), Failed>
         requires closed { ¬ is_open self.old }
         ensures created { OnOk result (Created name.now (seen self.old) (seen self.new)) }
@@ -26,8 +26,8 @@ pub trait Files {
         ensures once { ForSome (seen self.old).made (λ made. HasName made name.now → IsErr result) }
         ensures serves { CanCreate name.now (seen self.old) → IsOk result };
 
-    /// Takes the front of `bytes` behind those of the file, and answers how many bytes it took: at
-    /// least one, unless `bytes` is empty. An outside that takes none of them has failed.
+    /// Appends the front of `bytes` to the open file, and returns the number of bytes that it took: at least one,
+    /// unless `bytes` is empty. A call that could take none of them fails.
     fn append(&mut self, bytes: &[u8]) -> Result<usize, Failed>
         requires is_open { is_open self.old }
         ensures bound { IfOk result (λ n. n ≤ length bytes.now) }
@@ -39,7 +39,7 @@ pub trait Files {
         ensures serves { ForSome (seen self.old).left (λ left.
             length bytes.now ≤ left.bytes → IsOk result) };
 
-    /// Finishes the file.
+    /// Finishes the open file.
     fn finish(&mut self) -> Result<(), Failed>
         requires is_open { is_open self.old }
         ensures finished { OnOk result (Finished (seen self.old) (seen self.new)) }

@@ -12,22 +12,22 @@ use dada_model::numbers_are_spelled;
 use itoa::Buffer;
 use thiserror::Error;
 
-/// The greatest absolute value that is read.
+/// The largest absolute value that is read, in units of the last decimal.
 const MOST: u64 = 1_000_000_000_000_000_000;
 
-/// Why a text isn't read as a number. `place` is that of the first byte with which the text stops being
-/// the beginning of a number, or its length where there is no such byte.
+/// Why a text isn't read as a number.
 #[derive(Clone, Copy, Debug, PartialEq, Eq, Drop, Error)]
 pub enum NumberFault {
-    /// The text spells no number.
+    /// The text is no number. `place` is the first byte with which it stops being the beginning of a number, or its
+    /// length if there is no such byte.
     #[error("no number from byte {place} on")]
     BadNumber { place: usize },
-    /// It spells one whose absolute value is above 10^18, in units of the last decimal.
+    /// The text is a number, but its absolute value is above 10^18 units of the last decimal.
     #[error("the number is too large")]
     TooLarge,
 }
 
-// Whether a text begins with a minus, and what follows its sign, where it has one.
+// Whether a text begins with a minus, and the rest of the text after its sign, if it has one.
 fn split_sign(text: &[u8]) -> (bool, &[u8])
     ensures { SplitsSign text.now result.0 result.1.now }
 {
@@ -38,7 +38,7 @@ fn split_sign(text: &[u8]) -> (bool, &[u8])
     }
 }
 
-// The digits that a text begins with, and what follows them.
+// The digits that a text begins with, and the rest of the text.
 fn split_digits(text: &[u8]) -> (&[u8], &[u8])
     ensures { SplitsDigits text.now result.0.now result.1.now }
 {
@@ -46,7 +46,7 @@ fn split_digits(text: &[u8]) -> (&[u8], &[u8])
     text.split_at(end.unwrap_or(text.len()))
 }
 
-// The digits after a point that a text begins with, and what follows them.
+// The digits after the point that a text begins with, and the rest of the text.
 fn split_fraction(text: &[u8]) -> (&[u8], &[u8])
     requires { BeginsWithoutDigit text.now }
     ensures { SplitsFraction text.now result.0.now result.1.now }
@@ -57,7 +57,7 @@ fn split_fraction(text: &[u8]) -> (&[u8], &[u8])
     }
 }
 
-// The parts of a text that may be a number: the digits before the point and after it, and what follows.
+// The parts of a text that may be a number: the digits before the point, the digits after it, and the rest.
 #[derive(Clone, Copy)]
 struct Parts<'a> {
     negative: bool,
@@ -67,7 +67,7 @@ struct Parts<'a> {
 }
 
 impl Parts<'_> {
-    // Whether they are a number: digits, and nothing that follows.
+    // Whether the parts are a number: there are digits, and there is no rest.
     fn are_number(&self) -> bool
         ensures { IsTrue result
             ↔ ((self.now.rest.now ≡ [])
@@ -77,7 +77,7 @@ impl Parts<'_> {
     }
 }
 
-// The parts of a text.
+// Splits a text into its parts.
 fn split_number(text: &[u8]) -> Parts<'_>
     ensures { SplitsNumber text.now result.negative result.whole.now result.fraction.now
         result.rest.now }
@@ -93,7 +93,7 @@ fn split_number(text: &[u8]) -> Parts<'_>
     }
 }
 
-// A digit after a number of at most `MOST + 1`, kept at that.
+// `number` with one more digit, or `MOST + 1` if that is less.
 fn append_digit(number: u64, digit: u8) -> u64
     requires bound { number ≤ MOST + 1 }
     requires digit { IsAsciiDigit digit }
@@ -102,7 +102,7 @@ fn append_digit(number: u64, digit: u8) -> u64
     (number * 10 + u64::from(digit - b'0')).min(MOST + 1)
 }
 
-// Digits after a number of at most `MOST + 1`, kept at that.
+// `number` with more digits, or `MOST + 1` if that is less.
 fn append_digits(mut number: u64, digits: &[u8]) -> u64
     requires bound { number ≤ MOST + 1 }
     requires digits { All IsAsciiDigit digits.now }
@@ -116,7 +116,7 @@ fn append_digits(mut number: u64, digits: &[u8]) -> u64
     number
 }
 
-// Zeros after a number of at most `MOST + 1`, kept at that.
+// `number` with `zeros` zeros after it, or `MOST + 1` if that is less.
 fn append_zeros(number: u64, zeros: u32) -> u64
     requires { zeros ≤ 9 }
     ensures { (n : ℕ) → number ≡ capped n → result ≡ capped (n * 10 ^ zeros) }
@@ -124,7 +124,8 @@ fn append_zeros(number: u64, zeros: u32) -> u64
     number.saturating_mul(10u64.pow(zeros)).min(MOST + 1)
 }
 
-// Digits with a point, in units of the last of so many decimals; `MOST + 1` where they are more.
+// The number with the digits `whole` before the point and `fraction` after it, in units of the last of `decimals`
+// decimals, or `MOST + 1` if that is less. Further digits are dropped.
 fn magnitude(whole: &[u8], fraction: &[u8], decimals: u32) -> u64
     requires decimals { decimals ≤ 9 }
     requires whole { All IsAsciiDigit whole.now }
@@ -137,7 +138,7 @@ fn magnitude(whole: &[u8], fraction: &[u8], decimals: u32) -> u64
     append_zeros(number, decimals - kept as u32)
 }
 
-// A number with a sign.
+// The number with this sign and this absolute value.
 fn signed(negative: bool, magnitude: u64) -> i64
     requires { magnitude ≤ MOST }
     ensures value { result ≡ (if negative then neg_ℤ (pos magnitude) else pos magnitude) }
@@ -150,7 +151,7 @@ fn signed(negative: bool, magnitude: u64) -> i64
     }
 }
 
-// Appends a number in so many digits, with zeros in front.
+// Appends a number with zeros in front, so that it has `digits` digits.
 fn push_padded(number: u64, digits: u32, into: &mut ArrayString<32>)
     requires digits { digits ≤ 9 }
     requires room { length into.old.bytes ≤ 22 }
@@ -166,7 +167,7 @@ fn push_padded(number: u64, digits: u32, into: &mut ArrayString<32>)
     into.push_str(text);
 }
 
-// How many units of the last of so many decimals are one.
+// How many units of the last of `decimals` decimals make 1.
 fn units(decimals: u32) -> u64
     requires { decimals ≤ 9 }
     ensures value { result ≡ 10 ^ decimals }
@@ -175,7 +176,7 @@ fn units(decimals: u32) -> u64
     10u64.pow(decimals)
 }
 
-// Appends a number of so many units of the last decimal.
+// Appends a number without a sign, given in units of the last of `decimals` decimals.
 fn push_unsigned(number: u64, decimals: u32, into: &mut ArrayString<32>)
     requires decimals { decimals ≤ 9 }
     requires room { length into.old.bytes ≤ 1 }
@@ -190,7 +191,7 @@ fn push_unsigned(number: u64, decimals: u32, into: &mut ArrayString<32>)
     }
 }
 
-// Puts the text of a value in place of what `into` held.
+// Replaces what `into` holds by the text of `value`, given in units of the last of `decimals` decimals.
 fn put(value: i64, decimals: u32, into: &mut ArrayString<32>)
     requires { decimals ≤ 9 }
     ensures { into.new.bytes ≡ fixed_text decimals value }
@@ -202,12 +203,13 @@ fn put(value: i64, decimals: u32, into: &mut ArrayString<32>)
     push_unsigned(value.unsigned_abs(), decimals, into);
 }
 
-/// Numbers with a fixed count of decimals: each is a whole number of units of the last decimal.
+/// Reads and writes numbers with a fixed count of decimals. A number is kept as a whole number of units of the last
+/// decimal.
 pub struct Fixed;
 
 impl Fixed {
-    /// The value of a text in units of the last of so many decimals; further digits are dropped. A text
-    /// that is no number is refused, and so is an absolute value above 10^18.
+    /// Reads a number, in units of the last of `decimals` decimals: with 3 decimals, `1.5` is 1500. Further digits are
+    /// dropped. A text that is no number is refused, and so is an absolute value above 10^18 of these units.
     pub fn read(text: &[u8], decimals: u32) -> Result<i64, NumberFault>
         requires { decimals ≤ 9 }
         ensures value { IfOk result (λ z. number_value decimals text.now ≡ Some z) }
@@ -227,7 +229,7 @@ impl Fixed {
         Ok(signed(parts.negative, magnitude))
     }
 
-    /// Puts the text of a value of so many units of the last decimal in place of what `into` held.
+    /// Replaces what `into` holds by the text of `value`, given in units of the last of `decimals` decimals.
     pub fn write(value: i64, decimals: u32, into: &mut ArrayString<32>)
         requires { decimals ≤ 9 }
         ensures text { into.new.bytes ≡ fixed_text decimals value }

@@ -22,7 +22,7 @@ struct OpenFile {
     ended: bool,
 }
 
-// Whether the end of a file was seen, also by a read that gave so many bytes.
+// Whether the end of a file is seen after a read that gave `n` bytes; `ended` says whether it was seen before.
 fn sees_end(ended: bool, n: usize) -> bool
     ensures { result ≡ (ended || (n == 0)) }
 {
@@ -58,8 +58,8 @@ impl HeldFiles {
         }
     }
 
-    /// Puts the bytes under the name, in place of those that stood there. The file that is open
-    /// stays open, at its place.
+    /// Puts `bytes` under `name`, in place of those that stood there. If a file is open, it stays open, and its place
+    /// stays the same.
     pub(crate) fn put(&mut self, name: &str, bytes: &[u8]) -> Result<(), Memory>
         ensures put { OnOk result ((told_by self.new).bytes_under name.now ≡ Some bytes.now) }
         ensures others { OnOk result ((other : List ℕ) → other ≢ name.now
@@ -79,7 +79,7 @@ impl HeldFiles {
         Ok(())
     }
 
-    /// Opens the file of that name, if there is one.
+    /// Opens the file of that name. Returns whether there is one.
     pub(crate) fn open(&mut self, name: &str) -> bool
         ensures found { IsTrue result ↔ IsSome ((told_by self.old).bytes_under name.now) }
         ensures opened { result ≡ true → told_by self.new ≡ opened name.now (told_by self.old) }
@@ -99,7 +99,7 @@ impl HeldFiles {
         }
     }
 
-    /// No file is open.
+    /// Closes the open file, if there is one.
     pub(crate) fn close(&mut self)
         ensures told { told_by self.new ≡ closed (told_by self.old) }
         ensures files { self.new.files ≡ self.old.files }
@@ -111,14 +111,15 @@ impl HeldFiles {
         }
     }
 
-    /// A file is open.
+    /// Whether a file is open.
     pub(crate) fn is_reading(&self) -> bool
         ensures { IsTrue result ↔ IsReading self.now }
     {
         self.reading.is_some()
     }
 
-    /// Puts the next bytes of the open file at the front of `into`, as many as there are and as fit.
+    /// Copies the next bytes of the open file to the front of `into`, as many as there are and as fit. Returns their
+    /// number.
     pub(crate) fn read(&mut self, into: &mut [u8]) -> usize
         requires room { 0 < length into.old }
         requires reading { IsReading self.old }

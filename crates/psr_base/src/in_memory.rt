@@ -1,4 +1,4 @@
-// The objects in memory as generic callers have them: what they hold is what their traits tell.
+// The loops over inputs, files and sinks, for the objects in memory: clauses say what these hold.
 ghost use Rattle.std.specs.Prelude.{◌≡◌, ◌≢◌, ◌≤◌, ◌<◌, ◌++◌, [], length, vec_len, Err, IfOk, OnOk, OnErr, IsOk, IsSome};
 ghost use Rattle.psr_base.specs.Count.{Rose};
 ghost use Rattle.psr_base.specs.Told.{OfFile};

@@ -8,23 +8,23 @@ use crate::faults::Failed;
 
 /// Files that are read by name, one at a time and from the front.
 ///
-/// What an object tells of its files, it tells whole: the bytes under a name never change by
-/// these calls. A call that fails leaves what is told as it was.
+/// If the object tells what is in its files, it tells all of it, and no call of these changes it. A call that fails
+/// leaves what is told as it was.
 pub trait Inputs {
-    /// The bytes under each name, the open name and the place read to, where they are told; and how
-    /// far each file was read that was open before.
+    /// The bytes under each name, the open name, and the place that it was read to, if these are told; and how far each
+    /// file was read that was open before.
     ghost told: { Self → Told };
 
-    /// A name is open.
+    /// Whether a name is open.
     ghost is_open: { Self → Type 0 };
 
-    /// To open a name whose bytes are told, and to read, doesn't fail.
+    /// Whether opening a name whose bytes are told, and reading, can't fail.
     ghost is_calm: { Self → Type 0 };
 
-    /// How many calls have failed. The count goes no further than the greatest u64.
+    /// How many calls have failed. The count stops at the largest u64.
     ghost faults: { Self → ℕ };
 
-    /// Opens a name in place of the one that was open.
+    /// Opens the file `name` in place of the one that was open.
     fn open(&mut self, name: &str) -> Result<(), Failed>
         ensures opened { OnOk result (ForSome ((told self.old).bytes_under name.now)
             (λ _. told self.new ≡ opened name.now (told self.old))) }
@@ -37,8 +37,8 @@ pub trait Inputs {
         ensures serves { is_calm self.old
             → IsSome ((told self.old).bytes_under name.now) → IsOk result };
 
-    /// Puts the next bytes of the open file at the front of `into`, and answers how many they are:
-    /// 0 only at the end of the file. What stands in `into` after them is free.
+    /// Copies the next bytes of the open file to the front of `into`, and returns their number, which is 0 only at the
+    /// end of the file. What `into` holds after them is unspecified.
     fn read(&mut self, into: &mut [u8]) -> Result<usize, Failed>
         requires room { 0 < length into.old }
         requires is_open { is_open self.old }

@@ -1,4 +1,4 @@
-//! The outside as objects: what a search reads from and writes to, in memory and for real.
+//! The outside world as objects: what a search reads from and writes to, in memory and in the system.
 #![tactic(auto)]
 
 mod calls;

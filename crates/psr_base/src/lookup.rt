@@ -4,14 +4,14 @@ ghost use Rattle.psr_base.specs.NamedFiles.{place_in};
 
 use crate::held::MemFile;
 
-/// The place of the first file of that name.
+/// The place of the first file of that name in the list.
 pub(crate) fn place_of(files: &[MemFile], name: &str) -> Option<usize>
     ensures { result ≡ place_in files.now name.now }
 {
     files.iter().position(|file| file.name.as_str() == name)
 }
 
-/// Copies what stands from `place` on to the front of `into`, as much as fits.
+/// Copies the bytes from `place` on to the front of `into`, as many as fit. Returns their number.
 pub(crate) fn copy_from(bytes: &[u8], place: usize, into: &mut [u8]) -> usize
     ensures count { result ≡ min (length bytes.now - place) (length into.old) }
     ensures copied { take result into.new ≡ take result (drop place bytes.now) }

@@ -10,8 +10,8 @@ use crate::stored::{StoredFile, is_there};
 use arrayvec::ArrayString;
 use std::alloc::Global;
 
-/// Files in memory, with space for so many, names of 64 bytes, and so many bytes in all, which fail
-/// where they are told to.
+/// Files in memory, with room for a fixed number of files and of bytes in all. A name has up to 64 bytes. Chosen calls
+/// fail.
 #[derive(Drop)]
 pub struct MemFiles {
     finished: Vec<StoredFile>,
@@ -35,9 +35,8 @@ impl MemFiles {
     ghost use Rattle.psr_base.specs.InMemory.{made_of, stored_in, files_left, files_calls, CanMake, IsMaking};
     ghost use Rattle.psr_base.specs.Stored.{name_of};
 
-    /// No files, and memory for `files` of them, names of 64 bytes, and `room` bytes in all. Of the
-    /// calls of `create`, `append` and `finish`, which are numbered together from 0, those whose
-    /// number is in `fail` fail.
+    /// No files yet, and memory for `files` files and `room` bytes in all. The calls of `create`, `append` and `finish`
+    /// are numbered together from 0; those whose number is in `fail` fail.
     pub fn open(alloc: Global, files: u32, room: u64, fail: &[u64]) -> Result<MemFiles, Memory>
         ensures made { IfOk result (λ made.
             made_of made ≡ record { finished = []; unfinished = None }) }
@@ -57,7 +56,7 @@ impl MemFiles {
         })
     }
 
-    /// How many files there are.
+    /// The number of files.
     pub fn count(&self) -> u32
         ensures { result ≡ length (files_in (made_of self.now)) }
     {
@@ -96,7 +95,7 @@ impl MemFiles {
         &self.bytes[file.start..file.start + file.len]
     }
 
-    // A new file of that name, where there is space for one and none has the name.
+    // A new file of that name, if there is space for one and no file has the name.
     fn new_file(&self, name: &str) -> Option<StoredFile>
         requires { ¬ IsMaking self.now }
         ensures answer { IsSome result ↔ CanMake name.now self.now }

@@ -5,7 +5,7 @@ use crate::held::HeldFiles;
 use crate::inputs::Inputs;
 use std::alloc::Global;
 
-/// Files in memory, which fail where they are told to.
+/// Files in memory, of which chosen calls fail.
 #[derive(Drop)]
 pub struct MemInputs {
     files: HeldFiles,
@@ -16,8 +16,8 @@ impl MemInputs {
     ghost use Rattle.std.specs.Prelude.{◌≡◌, ◌≢◌, ℕ, List, [], None, Some, IfOk, OnOk, OnErr};
     ghost use Rattle.psr_base.specs.InMemory.{told_of, calls_of};
 
-    /// No files. Of the calls of `open` and `read`, which are numbered together from 0, those
-    /// whose number is in `fail` fail.
+    /// Inputs without any file. The calls of `open` and `read` are numbered together from 0; those whose number is in
+    /// `fail` fail.
     pub fn open(alloc: Global, fail: &[u64]) -> Result<MemInputs, Memory>
         ensures empty { IfOk result (λ inputs.
             (name : List ℕ) → (told_of inputs).bytes_under name ≡ None) }
@@ -32,8 +32,8 @@ impl MemInputs {
         })
     }
 
-    /// Puts the bytes under the name, in place of those that stood there. The file that is open
-    /// stays open, at its place.
+    /// Puts `bytes` under `name`, in place of those that stood there. If a file is open, it stays open, and its place
+    /// stays the same.
     pub fn put(&mut self, name: &str, bytes: &[u8]) -> Result<(), Memory>
         ensures put { OnOk result ((told_of self.new).bytes_under name.now ≡ Some bytes.now) }
         ensures others { OnOk result ((other : List ℕ) → other ≢ name.now

@@ -1,4 +1,4 @@
-// A stream of bytes in memory.
+// A sink in memory.
 ghost use Rattle.std.specs.Prelude.{◌≤◌, vec_len, vec_capacity};
 
 use crate::calls::Calls;
@@ -6,7 +6,7 @@ use crate::faults::{Failed, Memory};
 use crate::sink::Sink;
 use std::alloc::Global;
 
-/// Bytes in memory, with room for so many, which fails where it is told to.
+/// A sink in memory, with room for a fixed number of bytes. Chosen calls fail.
 #[derive(Drop)]
 pub struct MemSink {
     body: Vec<u8>,
@@ -20,8 +20,8 @@ impl MemSink {
     ghost use Rattle.std.specs.Prelude.{◌≡◌, [], IfOk};
     ghost use Rattle.psr_base.specs.InMemory.{body_of, free_room, sink_calls};
 
-    /// No bytes, and memory for `room` of them. Of the calls of `write`, which are numbered from
-    /// 0, those whose number is in `fail` fail.
+    /// No bytes yet, and memory for `room` bytes. The calls of `write` are numbered from 0; those whose number is in
+    /// `fail` fail.
     pub fn open(alloc: Global, room: u64, fail: &[u64]) -> Result<MemSink, Memory>
         ensures empty { IfOk result (λ sink. body_of sink ≡ []) }
         ensures room { IfOk result (λ sink. free_room sink ≡ room) }
@@ -36,7 +36,7 @@ impl MemSink {
         })
     }
 
-    /// What was written.
+    /// The bytes that were written.
     pub fn body(&self) -> &[u8]
         ensures { result.now ≡ body_of self.now }
     {

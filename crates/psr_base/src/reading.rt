@@ -1,4 +1,4 @@
-// Reading from an open file more than one call gives.
+// Reading more from an open file than one call gives.
 ghost use Rattle.std.specs.Prelude.{◌≡◌, ◌≢◌, ◌≤◌, ◌<◌, ℕ, length, vec_len, Err, IfOk, OnErr, IsOk, IsErr, IsSome};
 ghost use Rattle.std.specs.Option.{ForSome};
 ghost use Rattle.psr_base.specs.Inputs.{HasReadFrom};
@@ -9,8 +9,8 @@ use crate::inputs::Inputs;
 use std::alloc::{AllocError, Global};
 use thiserror::Error;
 
-/// Reads until `into` is full or the file ends, and answers how many bytes were read: fewer than
-/// fit only at the end of the file. What stands in `into` after them is free.
+/// Reads until `into` is full or the file ends, and returns the number of bytes that were read. It is less than the
+/// size of `into` only at the end of the file. What `into` holds after them is unspecified.
 ///
 /// After a fault some of the next bytes may be lost.
 pub fn fill<I: Inputs>(inputs: &mut I, into: &mut [u8]) -> Result<usize, Failed>
@@ -46,7 +46,7 @@ pub enum DataFault {
     /// The inputs failed.
     #[error("the inputs failed")]
     Failed,
-    /// There are more bytes than the limit.
+    /// There are more than `limit` bytes.
     #[error("more bytes than the limit")]
     TooLong,
     /// There was no memory.
@@ -77,10 +77,9 @@ impl From<AllocError> for DataFault {
 // The size of one read, in bytes.
 const PIECE: usize = 8192;
 
-/// Reads what is left of the open file, as long as it is at most `limit` bytes.
+/// Reads the rest of the open file, which may be at most `limit` bytes.
 ///
-/// It stops as soon as more than `limit` bytes were read. After a fault some of the next bytes may
-/// be lost.
+/// It stops as soon as more than `limit` bytes were read. After a fault some of the next bytes may be lost.
 pub fn read_to_end<I: Inputs>(
     alloc: Global,
     inputs: &mut I,
@@ -114,9 +113,9 @@ pub fn read_to_end<I: Inputs>(
     Err(DataFault::TooLong)
 }
 
-/// Opens the file of that name and reads all of it, as long as it is at most `limit` bytes.
+/// Opens the file `name` and reads all of it, which may be at most `limit` bytes.
 ///
-/// It stops as soon as more than `limit` bytes were read. No other file is opened, and none twice.
+/// It stops as soon as more than `limit` bytes were read. No other file is opened, and none is opened twice.
 pub fn read_file<I: Inputs>(
     alloc: Global,
     inputs: &mut I,
@@ -145,8 +144,8 @@ pub fn read_file<I: Inputs>(
     }
 }
 
-/// A law: reads that follow one another move the place by all their bytes, and one that gives none sees
-/// the end.
+/// Law: reads that follow one another move the place by the sum of their bytes, and a read that gives none sees the
+/// end.
 pub fn reads_join()
     ensures { ReadsJoin }
 {}

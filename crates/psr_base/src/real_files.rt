@@ -1,4 +1,4 @@
-// The system's files. Nothing is told of what they hold.
+// The files of the system. Nothing is told of what they hold.
 ghost use Rattle.std.specs.Prelude.{◌≡◌};
 
 use crate::calls::Faults;
@@ -9,7 +9,7 @@ use std::fs::{File, OpenFile};
 use std::io::{Read, Write};
 use std::{fs, io, rt};
 
-/// The files of the system. Each refusal of the system is a fault.
+/// The files of the system, for reading. Each error of the system is a fault.
 #[derive(Drop)]
 pub struct RealInputs<'a, R: rt::Files> {
     rt: &'a R,
@@ -18,7 +18,7 @@ pub struct RealInputs<'a, R: rt::Files> {
 }
 
 impl<'a, R: rt::Files> RealInputs<'a, R> {
-    /// No file is open, and no call has failed.
+    /// Inputs with no file open, of which no call has failed.
     pub fn new(rt: &'a R) -> RealInputs<'a, R>
         ensures { ⟦<RealInputs<'a, R> as Inputs>⟧.faults result ≡ 0 }
     {
@@ -61,10 +61,11 @@ impl<R: rt::Files> Inputs for RealInputs<'_, R> {
     }
 }
 
-/// Files of the system that are made new: a name that is there is refused, whatever it names, and
-/// nothing that exists is ever written to. A file that was finished is on the disk, and so is its name.
-/// Each refusal of the system is a fault. A file of which an append or `finish` failed is let go, and
-/// each later call on it fails.
+/// New files of the system. A name that exists is refused, whatever it names, so nothing that exists is ever written
+/// to. A finished file is on the disk (it is synced), and so is its name.
+///
+/// Each error of the system is a fault. If an append or `finish` fails, the file is let go, and each later call on it
+/// fails.
 #[derive(Drop)]
 pub struct RealFiles<'a, R: rt::Files> {
     rt: &'a R,
@@ -81,15 +82,14 @@ struct NewFile<F> {
 }
 
 impl<F: OpenFile + Drop> NewFile<F> {
-    // Waits until the disk has the bytes of the file and its name, and closes both. Tells whether the
-    // disk has them.
+    // Waits until the disk has the bytes of the file and its name, and closes both. Returns whether the disk has them.
     fn is_kept(self) -> bool {
         let NewFile { file, folder } = self;
         file.sync_all().is_ok() && folder.sync_all().is_ok()
     }
 }
 
-// The folder in which a name stands.
+// The folder that a name stands in.
 fn folder_of(name: &str) -> &str {
     match name.rsplit_once('/') {
         Some(("", _)) => "/",
@@ -99,7 +99,7 @@ fn folder_of(name: &str) -> &str {
 }
 
 impl<'a, R: rt::Files> RealFiles<'a, R> {
-    /// No file is open, and no call has failed.
+    /// Files of which none is open, and no call has failed.
     pub fn new(rt: &'a R) -> RealFiles<'a, R>
         ensures closed { ¬ ⟦<RealFiles<'a, R> as Files>⟧.is_open result }
         ensures faults { (⟦<RealFiles<'a, R> as Files>⟧.seen result).faults ≡ 0 }

@@ -1,4 +1,4 @@
-// The system's standard streams. Nothing is told of what they take.
+// The standard streams of the system. Nothing is told of what they take.
 ghost use Rattle.std.specs.Prelude.{◌≡◌, ◌≤◌, length};
 
 use crate::calls::Faults;
@@ -11,7 +11,7 @@ enum Stream {
     Notes,
 }
 
-/// A standard stream of the system. Each refusal of the system is a fault.
+/// The standard output or the standard error of the system. Each error of the system is a fault.
 #[derive(Drop)]
 pub struct RealSink<'a, R> {
     rt: &'a R,
@@ -31,7 +31,7 @@ impl<'a, R: Print + Eprint> RealSink<'a, R> {
         }
     }
 
-    /// The standard error, which takes text alone.
+    /// The standard error, which takes only UTF-8.
     pub fn notes(rt: &'a R) -> RealSink<'a, R>
         ensures { (⟦<RealSink<'a, R> as Sink>⟧.seen result).faults ≡ 0 }
     {
@@ -63,14 +63,14 @@ impl<R: Print + Eprint> Sink for RealSink<'_, R> {
     }
 }
 
-// How many of the bytes the standard output took, where 0 stands for its refusal too.
+// How many of the bytes the standard output took: 0 also if it refused them.
 fn print_bytes(rt: &impl Print, bytes: &[u8]) -> usize
     ensures { result ≤ length bytes.now }
 {
     rt.write_some(bytes).unwrap_or(0)
 }
 
-// How many of the bytes the standard error took: all of a text, or none.
+// How many of the bytes the standard error took: all of them if they are UTF-8, or none.
 fn print_text(rt: &impl Eprint, bytes: &[u8]) -> usize
     ensures { result ≤ length bytes.now }
 {

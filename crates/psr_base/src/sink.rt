@@ -5,14 +5,14 @@ ghost use Rattle.psr_base.specs.Written.{SinkSeen, WroteAll, WriteFails};
 
 use crate::faults::Failed;
 
-/// A stream of bytes that is written to. A call that fails leaves what is told as it was.
+/// A stream of bytes that is written to. A call that fails leaves what the object tells as it was.
 pub trait Sink {
-    /// The bytes written so far and the room for more, where they are told, and how many calls
-    /// have failed. That count goes no further than the greatest u64.
+    /// The bytes written so far and the room for more, both if they are told, and how many calls have failed. That
+    /// count stops at the largest u64.
     ghost seen: { Self → SinkSeen };
 
-    /// Takes the front of `bytes`, and answers how many bytes it took: at least one, unless `bytes`
-    /// is empty. An outside that takes none of them has failed.
+    /// Writes the front of `bytes`, and returns the number of bytes that it took: at least one, unless `bytes` is
+    /// empty. A call that could take none of them fails.
     fn write(&mut self, bytes: &[u8]) -> Result<usize, Failed>
         ensures bound { IfOk result (λ n. n ≤ length bytes.now) }
         ensures some { IfOk result (λ n. 0 < length bytes.now → 0 < n) }

@@ -1,14 +1,14 @@
-// A file that stands in a buffer beside others.
+// A file in a buffer that all files share.
 ghost use Rattle.std.specs.Prelude.{◌≡◌};
 ghost use Rattle.std.specs.List.{list_any};
 ghost use Rattle.psr_base.specs.Stored.{is_stored_as};
 
 use arrayvec::ArrayString;
 
-/// The most bytes of a name.
+/// The largest number of bytes of a name.
 pub(crate) const NAME_ROOM: usize = 64;
 
-/// A name, and where the bytes of the file stand in the buffer of all.
+/// The name of a file, and where its bytes are in the buffer.
 #[derive(Drop)]
 pub(crate) struct StoredFile {
     pub(crate) name: ArrayString<NAME_ROOM>,
@@ -16,7 +16,7 @@ pub(crate) struct StoredFile {
     pub(crate) len: usize,
 }
 
-/// One of the files has the name.
+/// Whether one of the files has the name.
 pub(crate) fn is_there(files: &[StoredFile], name: &str) -> bool
     ensures { result ≡ list_any (is_stored_as name.now) files.now }
 {

@@ -1,4 +1,4 @@
-// The words that a program is called with.
+// The arguments that a program is called with.
 ghost use Rattle.std.specs.Prelude.{◌≡◌, ◌≢◌, ◌↔◌, Err, IfOk, IsErrAnd, IsOkAnd};
 ghost use Rattle.std.specs.Vec.Iter.{into_iter_items};
 ghost use Rattle.std.specs.IoError.{error_kind};
@@ -9,10 +9,10 @@ use std::io;
 use std::io::ErrorKind;
 use thiserror::Error;
 
-/// Why a program has no words.
+/// Why a program has no arguments.
 #[derive(Clone, Copy, Debug, PartialEq, Eq, Error)]
 pub enum NoWords {
-    /// They can't be had, for instance where one isn't UTF-8. They are answered like faulty words.
+    /// The system gives none, for instance because one isn't UTF-8. Callers treat this like wrong arguments.
     #[error("the words can't be had")]
     Refused,
     /// There was no memory.
@@ -21,7 +21,7 @@ pub enum NoWords {
 }
 
 impl NoWords {
-    // Why there are none where the system gave this error in their place.
+    // Why there are none, if the system gave this error in their place.
     fn of_error(error: io::Error) -> NoWords
         ensures { (result ≡ NoWords.Refused) ↔ (error_kind error ≢ ErrorKind.OutOfMemory) }
     {
@@ -33,7 +33,7 @@ impl NoWords {
     }
 }
 
-/// The words that a program was started with, its name first: those that `env::args` gave, where it gave any.
+/// The arguments of a program, its name first: exactly those of `env::args`, if it succeeded.
 pub fn command_words(args: io::Result<Args>, alloc: Global) -> Result<Vec<String>, NoWords>
     ensures words { IfOk result (λ words. IsOkAnd args (λ all. words.items ≡ into_iter_items all)) }
     ensures refused { (result ≡ Err NoWords.Refused)

@@ -4,3 +4,4 @@ pub mod Ending
 pub mod Stretches
 pub mod Taken
 pub mod Leaving
+pub mod SampleFile

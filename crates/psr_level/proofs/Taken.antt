@@ -2,7 +2,7 @@
 use Rattle.std.proofs.Common.{◌≡◌, ℕ, ◌+◌, ◌<◌, Bool, true, false, List, [], ◌++◌, length, take, drop, refl, sym, ap, ◌∙◌, subst, append_assoc, arith}
 use Rattle.std.proofs.Common.{take-add}
 use Rattle.std.proofs.Math.Seq.{take-append_seam, drop-append_seam}
-use Rattle.std.proofs.lemmas.List.{append-nil, take_all}
+use Rattle.std.proofs.lemmas.List.{append-nil}
 use Rattle.std.proofs.lemmas.List.FromFn.{get_or-map-range_with_len}
 use Rattle.psr_base.specs.Written.{SinkSeen, WroteAll, WroteFront, PiecesJoin}
 use Rattle.dada_model.specs.Fields.{HeaderText, header_bytes}
@@ -11,16 +11,17 @@ use Rattle.channel_mask.specs.declared.fault.MaskFault.{MaskFault}
 use Rattle.channel_mask.specs.declared.fault.MaskFault.TheVariants as mask
 use Rattle.channel_mask.specs.Masks.{IsMaskOf, ExplainsMask, file_channel, mask_of, place_in_file}
 use Rattle.channel_mask.specs.Texts.{names_channel}
-use Rattle.band_level.specs.Values.{band}
-use Rattle.band_level.specs.Levelled.{Task, first_levels, levelled}
+use mathlib.Core.List.{IsPrefix}
+use Rattle.band_level.specs.Ranges.{FormatInRange}
+use Rattle.band_level.specs.Levelled.{Task, levelled}
 use Rattle.band_level.specs.Levelling.{Levelling, Levels, Takes, EndsAs}
 use Rattle.level_words.specs.Settings.{LevelSeen}
 use Rattle.drive_stream.specs.Endings.{All, Early, Failed, Midway, AtEnd}
 use Rattle.psr_level.specs.declared.refusal.LevelRefusal.{LevelRefusal}
 use Rattle.psr_level.specs.declared.refusal.LevelRefusal.TheVariants.{LongTime, BadMask, NoRoom}
 use Rattle.psr_level.specs.declared.task.LevelStream.{LevelStream}
-use Rattle.psr_level.specs.Draining.{Drains, BreaksDrain, LevelsAreFirst, StretchesAreWhole, whole_stretches}
-use Rattle.psr_level.specs.Levels.{CanLevel, Refuses, Opens, Streams, Leaves, Breaks, header_in, task_in}
+use Rattle.psr_level.specs.Draining.{Drains, BreaksDrain, LevelsAreFronts, StretchesAreWhole, whole_stretches}
+use Rattle.psr_level.specs.Levels.{CanLevel, Refuses, Opens, Streams, Leaves, header_in, task_in}
 
 take_behind : (xs ys : List ℕ) (n : ℕ) → take (length xs + n) (xs ++ ys) ≡ xs ++ take n ys
 take_behind xs ys n =
@@ -71,6 +72,7 @@ module _ (join : PiecesJoin) (s : LevelSeen) (o : Observation) (h : HeaderText) 
       let Wrote : List ℕ → Type 0 = λ xs. WroteAll xs before middle in
       record {
         task = drains.makes.task ∙ was.task;
+        format = was.format;
         goes_on = drains.makes.ended ∙ was.goes_on;
         drained = drains.drained;
         text = [] ++ drains.text;
@@ -83,11 +85,9 @@ module _ (join : PiecesJoin) (s : LevelSeen) (o : Observation) (h : HeaderText) 
       bytes ≡ header_bytes l.header → WroteFront bytes before after → Leaves s o h [] (Failed Midway) before after
   begin_broke l before after bytes was is front =
       let Front : List ℕ → Type 0 = λ xs. WroteFront xs before after in
-      let k = task_in s o in
       record {
         count = 0;
-        spectra = 0;
-        front = join.breaks_off (header_in s o h) (first_levels k (band k.format (take 0 [])) 0) before after
+        front = join.breaks_off (header_in s o h) (whole_stretches (task_in s o) (take 0 [])) before after
             (subst Front (head_is l was bytes is) front);
       }
 
@@ -100,6 +100,7 @@ module _ (join : PiecesJoin) (s : LevelSeen) (o : Observation) (h : HeaderText) 
       let Wrote : List ℕ → Type 0 = λ xs. WroteAll xs start after in
       record {
         task = drains.makes.task ∙ takes.task ∙ was.task;
+        format = was.format;
         goes_on = drains.makes.ended ∙ takes.ended ∙ was.goes_on;
         drained = drains.drained;
         text = was.text ++ drains.text;
@@ -108,42 +109,53 @@ module _ (join : PiecesJoin) (s : LevelSeen) (o : Observation) (h : HeaderText) 
             (join.joins (head ++ was.text) drains.text start before after was.wrote drains.wrote);
       }
 
-  -- a call of the output failed, once a leveller had made some text of some bytes
-  broke_at : LevelsAreFirst → (n : Levelling) (bytes all text more : List ℕ) (count : ℕ) (start before after : SinkSeen) →
-      n.task ≡ task_in s o → take count all ≡ bytes → Levels n bytes (text ++ more) →
+  -- a call of the output failed, once a leveller had made the front of what is to be written
+  broke_in : (all text more : List ℕ) (start before after : SinkSeen) → IsPrefix (text ++ more) all →
       WroteAll (header_in s o h ++ text) start before → WroteFront more before after →
-      Breaks s o h all start after
-  broke_at first n bytes all text more count start before after task is levels wrote front =
+      WroteFront (header_in s o h ++ all) start after
+  broke_in all text more start before after made wrote front =
       let head = header_in s o h in
-      let made = first n bytes (text ++ more) levels in
       let Front : List ℕ → Type 0 = λ xs. WroteFront xs start after in
-      let OfTask : Task → Type 0 = λ k. WroteFront (head ++ first_levels k (band k.format bytes) made.0) start after in
-      let k = task_in s o in
-      let OfBytes : List ℕ → Type 0 = λ xs. WroteFront (head ++ first_levels k (band k.format xs) made.0) start after in
+      subst Front
+      (append_assoc (head ++ text) more made.0 ∙ append_assoc head text (more ++ made.0)
+      ∙ ap (λ (xs : List ℕ). head ++ xs) (sym (append_assoc text more made.0) ∙ made.1))
+      (join.breaks_off ((head ++ text) ++ more) made.0 start after
+      (join.stops (head ++ text) more start before after wrote front))
+
+  -- while more data may come
+  broke_at : LevelsAreFronts → (n : Levelling) (bytes all text more : List ℕ) (count : ℕ)
+      (start before after : SinkSeen) → n.task ≡ task_in s o → FormatInRange (task_in s o).format →
+      n.has_ended ≡ false → take count all ≡ bytes → Levels n bytes (text ++ more) →
+      WroteAll (header_in s o h ++ text) start before → WroteFront more before after →
+      Leaves s o h all (Failed Midway) start after
+  broke_at fronts n bytes all text more count start before after task range on is levels wrote front =
+      let OfTask : Task → Type 0 = λ k. IsPrefix (text ++ more) (whole_stretches k bytes) in
+      let OfBytes : List ℕ → Type 0 = λ xs. IsPrefix (text ++ more) (whole_stretches (task_in s o) xs) in
+      let Ranged : Task → Type 0 = λ k. FormatInRange k.format in
+      let made = fronts.going n bytes (text ++ more) (subst Ranged (sym task) range) on levels in
       record {
         count = count;
-        spectra = made.0;
-        front = subst OfBytes (sym is) (subst OfTask task (subst Front
-            (append_assoc head text more ∙ ap (λ (xs : List ℕ). head ++ xs) made.1)
-            (join.stops (head ++ text) more start before after wrote front)));
+        front = broke_in (whole_stretches (task_in s o) (take count all)) text more start before after
+            (subst OfBytes (sym is) (subst OfTask task made)) wrote front;
       }
 
-  pub feed_broke : LevelsAreFirst → (a : LevelStream) (m n : Levelling) (bytes all : List ℕ) (count : ℕ)
+  pub feed_broke : LevelsAreFronts → (a : LevelStream) (m n : Levelling) (bytes all : List ℕ) (count : ℕ)
       (start before after : SinkSeen) → Streams s o h bytes a start before → Takes a.leveller m (take count all) →
       BreaksDrain m n before after → Leaves s o h (bytes ++ all) (Failed Midway) start after
-  feed_broke first a m n bytes all count start before after was takes broke =
-      broke_at first n (bytes ++ take count all) (bytes ++ all) was.text broke.text (length bytes + count) start before
-      after (broke.makes.task ∙ takes.task ∙ was.task) (take_behind bytes all count)
+  feed_broke fronts a m n bytes all count start before after was takes broke =
+      broke_at fronts n (bytes ++ take count all) (bytes ++ all) was.text broke.text (length bytes + count) start before
+      after (broke.makes.task ∙ takes.task ∙ was.task) was.format (broke.makes.ended ∙ takes.ended ∙ was.goes_on)
+      (take_behind bytes all count)
       (broke.makes.levels (bytes ++ take count all) was.text (takes.levels bytes was.text was.levels)) was.wrote
       broke.front
 
-  pub begin_breaks : LevelsAreFirst → (l : LevelStream) (n : Levelling) (before middle after : SinkSeen)
+  pub begin_breaks : LevelsAreFronts → (l : LevelStream) (n : Levelling) (before middle after : SinkSeen)
       (bytes : List ℕ) → Opens s o h l → bytes ≡ header_bytes l.header → WroteAll bytes before middle →
       BreaksDrain l.leveller n middle after → Leaves s o h [] (Failed Midway) before after
-  begin_breaks first l n before middle after bytes was is wrote broke =
+  begin_breaks fronts l n before middle after bytes was is wrote broke =
       let Wrote : List ℕ → Type 0 = λ xs. WroteAll xs before middle in
-      broke_at first n [] [] [] broke.text 0 before middle after (broke.makes.task ∙ was.task) refl
-      (broke.makes.levels [] [] was.fresh)
+      broke_at fronts n [] [] [] broke.text 0 before middle after (broke.makes.task ∙ was.task) was.format
+      (broke.makes.ended ∙ was.goes_on) refl (broke.makes.levels [] [] was.fresh)
       (subst Wrote (head_is l was bytes is ∙ sym (append-nil (header_in s o h))) wrote) broke.front
 
   pub finished : (a : LevelStream) (m n : Levelling) (bytes : List ℕ) (start before after : SinkSeen) →
@@ -159,13 +171,17 @@ module _ (join : PiecesJoin) (s : LevelSeen) (o : Observation) (h : HeaderText) 
       subst Wrote (append_assoc head was.text drains.text ∙ ap (λ (xs : List ℕ). head ++ xs) same)
       (join.joins (head ++ was.text) drains.text start before after was.wrote drains.wrote)
 
-  pub finish_broke : LevelsAreFirst → (a : LevelStream) (m n : Levelling) (bytes : List ℕ)
+  pub finish_broke : LevelsAreFronts → (a : LevelStream) (m n : Levelling) (bytes : List ℕ)
       (start before after : SinkSeen) → Streams s o h bytes a start before → EndsAs a.leveller m →
       BreaksDrain m n before after → Leaves s o h bytes (Failed AtEnd) start after
-  finish_broke first a m n bytes start before after was ends broke =
-      broke_at first n bytes bytes was.text broke.text (length bytes) start before after
-      (broke.makes.task ∙ ends.task ∙ was.task) (take_all (length bytes) bytes (omega arith))
-      (broke.makes.levels bytes was.text (ends.levels bytes was.text was.levels)) was.wrote broke.front
+  finish_broke fronts a m n bytes start before after was ends broke =
+      let task = broke.makes.task ∙ ends.task ∙ was.task in
+      let OfTask : Task → Type 0 = λ k. IsPrefix (was.text ++ broke.text) (levelled k bytes) in
+      let Ranged : Task → Type 0 = λ k. FormatInRange k.format in
+      let made = fronts.ever n bytes (was.text ++ broke.text) (subst Ranged (sym task) was.format)
+      (broke.makes.levels bytes was.text (ends.levels bytes was.text was.levels)) in
+      broke_in (levelled (task_in s o) bytes) was.text broke.text start before after (subst OfTask task made) was.wrote
+      broke.front
 
   pub stopped : StretchesAreWhole → (a : LevelStream) (bytes : List ℕ) (start now : SinkSeen) →
       Streams s o h bytes a start now → Leaves s o h bytes Early start now

@@ -1,9 +1,11 @@
 -- What a leveller makes of the bytes that it took.
 -- Source: this project's choice.
 use Rattle.std.specs.Prelude.{◌≡◌, ℕ, ◌*◌, ◌/◌, true, false, List, ◌++◌}
+use mathlib.Core.List.{IsPrefix}
 use Rattle.psr_base.specs.Written.{SinkSeen, WroteAll, WroteFront}
 use Rattle.band_level.specs.Values.{band}
-use Rattle.band_level.specs.Levelled.{Task, first_levels}
+use Rattle.band_level.specs.Ranges.{FormatInRange}
+use Rattle.band_level.specs.Levelled.{Task, first_levels, levelled}
 use Rattle.band_level.specs.Levelling.{Levelling, Levels, IsDone, pending}
 
 -- the whole stretches of data bytes, levelled
@@ -30,10 +32,13 @@ pub record BreaksDrain (l m : Levelling) (before after : SinkSeen) : Type 0 wher
   pub makes : Makes l m text
   pub front : WroteFront text before after
 
--- what was made of data bytes are levels of their first spectra
-abbrev pub LevelsAreFirst : Type 0
-LevelsAreFirst = (l : Levelling) (bytes out : List ℕ) → Levels l bytes out →
-    (spectra : ℕ) × (out ≡ first_levels l.task (band l.task.format bytes) spectra)
+-- What was made while more data may come is a front of the whole stretches of what was taken. What was made at any time
+-- is a front of all that was taken, levelled.
+pub record LevelsAreFronts : Type 0 where
+  pub going : (l : Levelling) (bytes out : List ℕ) → FormatInRange l.task.format →
+      l.has_ended ≡ false → Levels l bytes out → IsPrefix out (whole_stretches l.task bytes)
+  pub ever : (l : Levelling) (bytes out : List ℕ) → FormatInRange l.task.format →
+      Levels l bytes out → IsPrefix out (levelled l.task bytes)
 
 -- once nothing is to be levelled, and more data may come, what was made are the whole stretches of what was taken
 abbrev pub StretchesAreWhole : Type 0

@@ -6,13 +6,13 @@ use Rattle.dada_model.specs.Fields.{HeaderText, header_bytes}
 use Rattle.dada_model.specs.Observation.{Observation}
 use Rattle.channel_mask.specs.declared.fault.MaskFault.TheVariants.{Memory}
 use Rattle.channel_mask.specs.Masks.{IsMaskOf, mask_of, ExplainsMask}
-use Rattle.band_level.specs.Values.{band}
-use Rattle.band_level.specs.Levelled.{Task, first_levels, levelled}
+use Rattle.band_level.specs.Ranges.{FormatInRange}
+use Rattle.band_level.specs.Levelled.{Task, levelled}
 use Rattle.band_level.specs.Levelling.{Levels, pending}
 use Rattle.level_words.specs.Settings.{LevelSeen}
 use Rattle.level_plan.specs.Plans.{task_of, FitsTime}
 use Rattle.level_plan.specs.Headers.{level_header, HasNoRoom, HasRoom}
-use Rattle.drive_stream.specs.Endings.{Ending, All, Early, Failed, Refused, AtStop}
+use Rattle.drive_stream.specs.Endings.{Ending, All, Early, Failed, Refused, Midway, AtEnd, AtStop}
 use Rattle.psr_level.specs.declared.refusal.LevelRefusal.{LevelRefusal}
 use Rattle.psr_level.specs.declared.refusal.LevelRefusal.TheVariants.{LongTime, BadMask, NoRoom}
 use Rattle.psr_level.specs.declared.task.LevelStream.{LevelStream}
@@ -49,22 +49,22 @@ file_of s o header bytes = header_in s o header ++ levelled (task_in s o) bytes
 abbrev pub front_of : LevelSeen → Observation → HeaderText → List ℕ → List ℕ
 front_of s o header bytes = header_in s o header ++ whole_stretches (task_in s o) bytes
 
--- a call of the output failed: it took the front of the header and of the levels of the first spectra of the first of
--- these bytes
+-- a call of the output failed before all data had come: so many of these bytes had been taken, and what is written of
+-- those was written in front
 pub record Breaks (s : LevelSeen) (o : Observation) (header : HeaderText) (bytes : List ℕ)
     (before after : SinkSeen) : Type 0 where
   pub count : ℕ
-  pub spectra : ℕ
-  pub front : WroteFront (header_in s o header
-      ++ first_levels (task_in s o) (band (task_in s o).format (take count bytes)) spectra) before after
+  pub front : WroteFront (front_of s o header (take count bytes)) before after
 
 -- what is left of data bytes, by their ending
 abbrev pub Leaves : LevelSeen → Observation → HeaderText → List ℕ → Ending LevelRefusal →
     SinkSeen → SinkSeen → Type 0
 Leaves s o header bytes All before after = WroteAll (file_of s o header bytes) before after
 Leaves s o header bytes Early before after = WroteAll (front_of s o header bytes) before after
+Leaves s o header bytes (Failed Midway) before after = Breaks s o header bytes before after
+Leaves s o header bytes (Failed AtEnd) before after =
+    WroteFront (file_of s o header bytes) before after
 Leaves s o header bytes (Failed AtStop) before after = ⊥
-Leaves s o header bytes (Failed phase) before after = Breaks s o header bytes before after
 Leaves s o header bytes (Refused refusal) before after = ⊥
 
 -- ---- a stream
@@ -74,6 +74,7 @@ pub record Opens (s : LevelSeen) (o : Observation) (header : HeaderText) (stream
     Type 0 where
   pub header_is : stream.header ≡ level_header s.options o header
   pub task : stream.leveller.task ≡ task_in s o
+  pub format : FormatInRange (task_in s o).format
   pub goes_on : stream.leveller.has_ended ≡ false
   pub fresh : Levels stream.leveller [] []
 
@@ -81,6 +82,7 @@ pub record Opens (s : LevelSeen) (o : Observation) (header : HeaderText) (stream
 pub record Streams (s : LevelSeen) (o : Observation) (header : HeaderText) (bytes : List ℕ)
     (stream : LevelStream) (start now : SinkSeen) : Type 0 where
   pub task : stream.leveller.task ≡ task_in s o
+  pub format : FormatInRange (task_in s o).format
   pub goes_on : stream.leveller.has_ended ≡ false
   pub drained : pending stream.leveller ≡ 0
   pub text : List ℕ

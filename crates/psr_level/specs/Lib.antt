@@ -4,3 +4,4 @@ pub mod Notes
 pub mod Files
 pub mod Outcome
 pub mod Complete
+pub mod Sample

@@ -9,8 +9,11 @@ use Rattle.run_stop.specs.Firsts.{BreaksFirstAt, ReadsFirsts}
 use Rattle.search_opening.specs.Settings.{OfRunFirsts}
 use Rattle.level_words.specs.declared.fault.LevelFault.{LevelFault}
 use Rattle.level_words.specs.Settings.{LevelSeen, SayLevel, ExplainsLevel}
+use Rattle.stream_model.specs.WalkLaws.{AreWalked}
 use Rattle.drive_stream.specs.declared.stop.StreamStop.{StreamStop}
-use Rattle.drive_stream.specs.Outcome.{BreaksData, EndsStream}
+use Rattle.drive_stream.specs.declared.stop.StreamStop.TheVariants as stream
+use Rattle.drive_stream.specs.Laws.{IsFromOutside}
+use Rattle.drive_stream.specs.Outcome.{BreaksData, EndsStream, OfHead, ReadsHead}
 use Rattle.psr_level.specs.declared.refusal.LevelRefusal.{LevelRefusal}
 use Rattle.psr_level.specs.declared.stop.LevelStop.{LevelStop}
 use Rattle.psr_level.specs.declared.stop.LevelStop.TheVariants.{Run}
@@ -18,7 +21,8 @@ use Rattle.psr_level.specs.Levels.{CanLevel, Leaves, Refuses}
 use Rattle.psr_level.specs.Notes.{end_status, level_note, stop_of_stream, stop_of_words}
 
 -- how the stream of a levelling of these settings ends
-abbrev pub EndsLevel : LevelSeen → Told → SinkSeen → SinkSeen → Option (StreamStop LevelRefusal) → Type 0
+abbrev pub EndsLevel : LevelSeen → Told → SinkSeen → SinkSeen →
+    Option (StreamStop LevelRefusal) → Type 0
 EndsLevel s told before after stop =
     EndsStream (CanLevel s) (Refuses s) (Leaves s) s.run told before after stop
 
@@ -52,12 +56,27 @@ pub record Outcome (words : List (List ℕ)) (inputs : InputsSeen) (is_calm : Ty
   pub noted : (what : LevelStop) → stop ≡ Some what →
       Noted (level_note what) notes_before notes_after
 
--- What was read at 5: no file, or the first header and no byte past it. And what a fault of the inputs left at 6,
--- before the first header was judged or while data were read.
+-- What was read where the program refuses an observation, by the stop: the first header and no byte past it. Memory,
+-- the inputs or the output may fail first.
+pub record ReadsRefused (s : LevelSeen) (before after : Told)
+    (stop : Option (StreamStop LevelRefusal)) : Type 0 where
+  pub stopped : (refusal : LevelRefusal) → stop ≡ Some (stream.Refused refusal) →
+      ReadsHead s.run before after
+  pub refused : OfRunFirsts before s.run (λ w. AreWalked w → (refusal : LevelRefusal) →
+      OfHead (λ o header. Refuses s o header refusal) w →
+      ReadsFirsts s.run.names w before after ⊎ IsFromOutside stop)
+
+-- What was read at 5: no file, or the first header and no byte past it; at 12, and at 3 if that header is accepted and
+-- refused by the settings, it and no byte past it. And what a fault of the inputs left at 6, before the first header
+-- was judged or while data were read.
 pub record LeavesFiles (words : List (List ℕ)) (is_calm : Type 0) (before after : Told)
     (status : ℕ) : Type 0 where
   pub unread : status ≡ 5 → (after ≡ before) ⊎ ((s : LevelSeen) → SayLevel words s →
-      OfRunFirsts before s.run (λ w. ReadsFirsts s.run.names w before after))
+      ReadsHead s.run before after)
+  pub masked : status ≡ 12 → (s : LevelSeen) → SayLevel words s → ReadsHead s.run before after
+  pub refused : status ≡ 3 → (s : LevelSeen) → SayLevel words s →
+      OfRunFirsts before s.run (λ w. AreWalked w → (refusal : LevelRefusal) →
+      OfHead (λ o header. Refuses s o header refusal) w → ReadsFirsts s.run.names w before after)
   pub broken : status ≡ 6 → (s : LevelSeen) → SayLevel words s →
       BreaksFirstAt s.run.names s.run.starts is_calm before after
       ⊎ BreaksData s.run is_calm before after

@@ -1,6 +1,6 @@
 //! What is to be levelled is levelled and written.
 ghost use Rattle.std.specs.Prelude.{OnOk, OnErr};
-ghost use Rattle.psr_level.specs.Draining.{Drains, BreaksDrain, LevelsAreFirst, StretchesAreWhole};
+ghost use Rattle.psr_level.specs.Draining.{Drains, BreaksDrain, LevelsAreFronts, StretchesAreWhole};
 
 use band_level::Leveller;
 use psr_base::{Failed, Sink, write_all};
@@ -25,9 +25,9 @@ pub(crate) fn drain<K: Sink>(leveller: &mut Leveller, out: &mut K) -> Result<(),
     Ok(())
 }
 
-/// A law: what was made are levels of the first spectra of what was taken.
-pub(crate) fn levels_are_first()
-    ensures { LevelsAreFirst }
+/// A law: what was made is a front of what is to be made.
+pub(crate) fn levels_are_fronts()
+    ensures { LevelsAreFronts }
 {}
 
 /// A law: what was made between two pieces of data.

@@ -8,7 +8,7 @@ ghost use Rattle.level_words.specs.Settings.{LevelInRange, level_seen};
 ghost use Rattle.drive_stream.specs.Endings.{ExplainsOpen};
 ghost use Rattle.psr_level.specs.Levels.{CanLevel, Leaves, Opens, Refuses, Streams};
 
-use crate::drain::{drain, levels_are_first, stretches_are_whole};
+use crate::drain::{drain, levels_are_fronts, stretches_are_whole};
 use crate::refusal::LevelRefusal;
 use band_level::Leveller;
 use channel_mask::{Mask, MaskFault};
@@ -173,7 +173,7 @@ impl<'a> Streaming for LevelTask<'a> {
         out: &mut K,
     ) -> Result<(), Failed> {
         pieces_join();
-        levels_are_first();
+        levels_are_fronts();
         match write_all(out, stream.header.bytes()) {
             Ok(()) => {}
             Err(failed) => return Err(failed),
@@ -192,7 +192,7 @@ impl<'a> Streaming for LevelTask<'a> {
         out: &mut K,
     ) -> Result<usize, Failed> {
         pieces_join();
-        levels_are_first();
+        levels_are_fronts();
         let count = stream.leveller.feed(bytes);
         match drain(&mut stream.leveller, out) {
             Ok(()) => Ok(count),
@@ -207,7 +207,7 @@ impl<'a> Streaming for LevelTask<'a> {
         out: &mut K,
     ) -> Result<(), FinishFault<LevelRefusal>> {
         pieces_join();
-        levels_are_first();
+        levels_are_fronts();
         stream.leveller.end();
         match drain(&mut stream.leveller, out) {
             Ok(()) => Ok(()),

@@ -9,7 +9,7 @@ ghost use Rattle.drive_stream.specs.Outcome.{LeavesInputs};
 ghost use Rattle.psr_level.specs.Complete.{IsComplete};
 ghost use Rattle.psr_level.specs.Files.{ForLevel, level_file};
 ghost use Rattle.psr_level.specs.Notes.{end_status, stop_of_stream};
-ghost use Rattle.psr_level.specs.Outcome.{EndsAtWords, EndsLevel, EndsSettings, LeavesFiles, Outcome};
+ghost use Rattle.psr_level.specs.Outcome.{EndsAtWords, EndsLevel, EndsSettings, LeavesFiles, Outcome, ReadsRefused};
 
 use crate::refusal::LevelRefusal;
 use crate::stop::LevelStop;
@@ -47,6 +47,8 @@ fn stream<R: Wait, I: Inputs, K: Sink>(
         (end_status (option_map stop_of_stream result)) }
     ensures leaves { LeavesInputs (level_seen settings.now).run (I.is_calm inputs.old)
         (I.told inputs.old) (I.told inputs.new) result }
+    ensures refused { ReadsRefused (level_seen settings.now) (I.told inputs.old)
+        (I.told inputs.new) result }
 {
     let task = LevelTask { settings };
     streams_end(&task);

@@ -3,3 +3,5 @@ pub mod Streamed
 pub mod Ends
 pub mod Starting
 pub mod Reading
+pub mod Causes
+pub mod SampleTexts

@@ -1,4 +1,4 @@
--- What was read at want of memory, and what a fault of the inputs leaves.
+-- What was read at want of memory and at a refusal, and what a fault of the inputs leaves.
 use Rattle.std.proofs.Common.{◌≡◌, ◌≢◌, ℕ, Bool, true, false, List, Option, Some, None, refl, sym, ◌∙◌, ap, subst, inl, inr}
 use Rattle.std.specs.Prelude.{IsSome, if◌then◌else◌}
 use Rattle.std.specs.Str.{bytes_eq}
@@ -11,31 +11,35 @@ use Rattle.warm_restart.specs.declared.checkpoint.Checkpoint.{Checkpoint}
 use Rattle.warm_restart.specs.declared.checkpoint.CheckpointFault.{CheckpointFault}
 use Rattle.warm_restart.specs.declared.checkpoint.CheckpointFault.TheVariants as check
 use Rattle.warm_restart.specs.Named.{most_read, named_text, new_word, ReadsFront}
+use Rattle.run_stop.specs.declared.stop.Stop.{Stop}
 use Rattle.run_stop.specs.declared.stop.Stop.TheVariants.{Memory, ReadFault}
 use Rattle.run_stop.specs.Conversions.{stop_of_words}
 use Rattle.run_stop.specs.Firsts.{BreaksFirstAt}
 use Rattle.drive_stream.specs.declared.stop.StreamStop.{StreamStop}
 use Rattle.drive_stream.specs.declared.stop.StreamStop.TheVariants as streamed
 use Rattle.drive_stream.specs.Outcome.{BreaksData, LeavesInputs}
-use Rattle.psr_part.specs.declared.stop.PartStop.TheVariants.{Run}
+use Rattle.psr_part.specs.declared.stop.CheckpointRefusal.{CheckpointRefusal}
+use Rattle.psr_part.specs.declared.stop.CheckpointRefusal.TheVariants as check_refusal
+use Rattle.psr_part.specs.declared.stop.PartStop.{PartStop}
+use Rattle.psr_part.specs.declared.stop.PartStop.TheVariants.{Run, Refused}
 use Rattle.psr_part.specs.Part.{check_word}
 use Rattle.psr_part.specs.Outcome.{BreaksAtCheck, ReadsCheck}
 use Rattle.psr_part.specs.Texts.{stop_of_checkpoint}
 use Rattle.psr_live.specs.declared.task.LiveRefusal.{LiveRefusal}
-use Rattle.psr_live.specs.declared.task.LiveRefusal.TheVariants as refusal
+use Rattle.psr_live.specs.declared.task.LiveRefusal.TheVariants as refusals
 use Rattle.psr_live.specs.Outcome.{GoesOnFrom, SayLive}
-use Rattle.psr_live.specs.Reads.{LeavesAtFault, ReadsNoData}
+use Rattle.psr_live.specs.Reads.{LeavesAtFault, LeavesFiles, ReadsNoData, ReadsRefused}
 use Rattle.psr_live.specs.Texts.{stop_of_stream}
-use Rattle.psr_live.proofs.Starting.{accepted, refused, to_stream}
+use Rattle.psr_live.proofs.Starting.{refused, to_stream}
 
 -- ---- before CHECK was accepted
 
-pub not_words : (f : WordFault) → Some (Run (stop_of_words f)) ≡ Some (Run ReadFault) → ⊥
+not_words : (f : WordFault) → Some (Run (stop_of_words f)) ≡ Some (Run ReadFault) → ⊥
 not_words word.Refused same = absurd cc
 not_words (word.OutOfRange opt) same = absurd cc
 not_words word.Memory same = absurd cc
 
-pub not_memory : (f : CheckpointFault) → Some (stop_of_checkpoint f) ≡ Some (Run Memory) → ⊥
+not_memory : (f : CheckpointFault) → Some (stop_of_checkpoint f) ≡ Some (Run Memory) → ⊥
 not_memory check.Failed same = absurd cc
 not_memory check.Form same = absurd cc
 not_memory (check.Place place until) same = absurd cc
@@ -51,7 +55,7 @@ named_there : (is_new : Bool) (word : List ℕ) (told : Told) → IsSome (told.b
 named_there true word told there = refl
 named_there false word told there = there
 
-pub breaks_at_check : (words : List (List ℕ)) (is_calm : Type 0) (word : List ℕ) (old new : Told) (f : CheckpointFault) →
+breaks_at_check : (words : List (List ℕ)) (is_calm : Type 0) (word : List ℕ) (old new : Told) (f : CheckpointFault) →
     word ≡ check_word words → (word ≡ new_word → refused f ≢ refused check.Failed) →
     (refused f ≡ refused check.Failed → OfFile old word (λ _. BreaksOff most_read word old new)) →
     (is_calm → IsSome (named_text old word) → refused f ≢ refused check.Failed) →
@@ -81,14 +85,57 @@ reads_check told words word old new is none front names = record {
   names = names;
 }
 
+-- a refusal is no fault of the inputs
+refusal_read : (f : CheckpointFault) (refusal : CheckpointRefusal) →
+    Some (stop_of_checkpoint f) ≡ Some (Refused refusal) → refused f ≢ refused check.Failed
+refusal_read check.Failed refusal same e = absurd cc
+refusal_read check.Form refusal same e = absurd cc
+refusal_read (check.Place place until) refusal same e = absurd cc
+
+at_refusal : (words : List (List ℕ)) (old new : Told) (refusal : CheckpointRefusal) → ReadsCheck words old new →
+    ReadsRefused words old new refusal
+at_refusal words old new check_refusal.Form read = read
+at_refusal words old new (check_refusal.Place place until) read = read
+at_refusal words old new (check_refusal.Beyond place spectra) read = tt
+
+-- where words say no settings, or CHECK no checkpoint
+pub leaves_at_words : (words : List (List ℕ)) (is_calm : Type 0) (told : Told) (fault : WordFault) (stop : Stop) →
+    stop ≡ stop_of_words fault → LeavesFiles words is_calm told told (Some (Run stop))
+leaves_at_words words is_calm told fault stop is = record {
+  early = λ _. inl refl;
+  broken = λ same. absurd (not_words fault (sym (ap (λ s. Some (Run s)) is) ∙ same));
+  refused = λ refusal same. absurd cc;
+}
+
+pub leaves_at_check : {I : Type 0} (told : I → Told) (words : List (List ℕ)) (is_calm : Type 0) (word : List ℕ)
+    (old new : I) (f : CheckpointFault) (stop : PartStop) → stop ≡ stop_of_checkpoint f → word ≡ check_word words →
+    (word ≡ new_word → (new ≡ old) × (refused f ≢ refused check.Failed)) →
+    (word ≢ new_word → refused f ≢ refused check.Failed →
+    OfFile (told old) word (λ file. ReadsFront most_read word file (told old) (told new))) →
+    (refused f ≡ refused check.Failed →
+    OfFile (told old) word (λ _. BreaksOff most_read word (told old) (told new))) →
+    (is_calm → IsSome (named_text (told old) word) → refused f ≢ refused check.Failed) →
+    (told new).bytes_under ≡ (told old).bytes_under →
+    LeavesFiles words is_calm (told old) (told new) (Some stop)
+leaves_at_check told words is_calm word old new f stop is same none front broke serves names = record {
+  early = λ e. absurd (not_memory f (sym (ap Some is) ∙ e));
+  broken = λ e.
+      inl (breaks_at_check words is_calm word (told old) (told new) f same (λ e. (none e).1) broke serves
+      (sym (ap Some is) ∙ e));
+  refused = λ refusal e.
+      let read = refusal_read f refusal (sym (ap Some is) ∙ e) in
+      at_refusal words (told old) (told new) refusal
+      (reads_check told words word old new same (λ e. (none e).0) (λ other. front other read) names);
+}
+
 -- ---- from then on
 
 to_memory : (stop : Option (StreamStop LiveRefusal)) → stop_of_stream stop ≡ Some (Run Memory) →
     stop ≡ Some (streamed.Run Memory)
 to_memory None is = absurd cc
 to_memory (Some (streamed.Run stop)) is = cc
-to_memory (Some (streamed.Refused (refusal.Plan cause))) is = absurd cc
-to_memory (Some (streamed.Refused (refusal.Beyond place spectra))) is = absurd cc
+to_memory (Some (streamed.Refused (refusals.Plan cause))) is = absurd cc
+to_memory (Some (streamed.Refused (refusals.Beyond place spectra))) is = absurd cc
 
 module _ (s : SettingsSeen) (calm calm' : Type 0) (stays : calm → calm') (before after : Told) where
   first_stays : BreaksFirstAt s.names s.starts calm' before after → BreaksFirstAt s.names s.starts calm before after
@@ -119,7 +166,7 @@ module _ (words : List (List ℕ)) (s : SettingsSeen) (says : SayLive words s) (
     (calm calm' : Type 0) (stays : calm → calm') (old mid new : Told) (goes : GoesOnFrom old words from)
     (read : ReadsCheck words old mid) (stop : Option (StreamStop LiveRefusal))
     (leaves : LeavesInputs (with_search tt s) calm' mid new stop) where
-  pub no_data : stop_of_stream stop ≡ Some (Run Memory) → ReadsNoData words old new
+  no_data : stop_of_stream stop ≡ Some (Run Memory) → ReadsNoData words old new
   no_data is = inr (record {
     settings = s;
     says = says;
@@ -130,7 +177,7 @@ module _ (words : List (List ℕ)) (s : SettingsSeen) (says : SayLive words s) (
     holds = leaves.unread (to_memory stop is);
   })
 
-  pub at_fault : stop_of_stream stop ≡ Some (Run ReadFault) → LeavesAtFault words calm old new
+  at_fault : stop_of_stream stop ≡ Some (Run ReadFault) → LeavesAtFault words calm old new
   at_fault is = inr (record {
     settings = s;
     says = says;
@@ -143,3 +190,19 @@ module _ (words : List (List ℕ)) (s : SettingsSeen) (says : SayLive words s) (
       | inr later ↦ inr (data_stays s calm calm' stays mid new later)
     ];
   })
+
+  at_end : (refusal : CheckpointRefusal) → (end : Option (StreamStop LiveRefusal)) →
+      stop_of_stream end ≡ Some (Refused refusal) → ReadsRefused words old new refusal
+  at_end refusal None is = absurd cc
+  at_end refusal (Some (streamed.Run end)) is = absurd cc
+  at_end refusal (Some (streamed.Refused (refusals.Plan cause))) is = absurd cc
+  at_end refusal (Some (streamed.Refused (refusals.Beyond place spectra))) is =
+      let e : refusal ≡ check_refusal.Beyond place spectra = cc in subst (ReadsRefused words old new) (sym e) tt
+
+  pub leaves_streamed : (result : Option PartStop) → result ≡ stop_of_stream stop →
+      LeavesFiles words calm old new result
+  leaves_streamed result is = record {
+    early = λ e. no_data (sym is ∙ e);
+    broken = λ e. at_fault (sym is ∙ e);
+    refused = λ refusal e. at_end refusal stop (sym is ∙ e);
+  }

@@ -1,5 +1,5 @@
 -- How a search ends before its data, or once they streamed through it.
-use Rattle.std.proofs.Common.{◌≡◌, ◌≢◌, ℕ, ◌<◌, Bool, true, false, List, [], ◌∷◌, length, Option, Some, None, Ok, Err, Result, refl, sym, ◌∙◌, ap, subst, inl, inr, arith}
+use Rattle.std.proofs.Common.{◌≡◌, ◌≢◌, ℕ, ◌<◌, ◌≤◌, Bool, true, false, List, [], ◌∷◌, length, Option, Some, None, Ok, Err, Result, refl, sym, ◌∙◌, ap, subst, inl, inr, arith}
 use Rattle.std.specs.Prelude.{IsSome, slice_index_or, if◌then◌else◌}
 use Rattle.std.specs.Option.{ForSome}
 use Rattle.std.specs.Str.{bytes_eq}
@@ -72,10 +72,12 @@ module _ {I : Type 0} (told : I → Told) (is_calm : I → Type 0) (faults : I �
   pub at_check : (fault : CheckpointFault) (stop : PartStop) → stop ≡ stop_of_checkpoint fault →
       (refused fault ≢ refused check.Failed → ForSome (named_text (told old) word)
       (λ text. IsJudged text greatest_count (Err fault))) →
+      ((place limit : ℕ) → refused fault ≡ refused (check.Place place limit) →
+      (greatest_count ≡ limit) × (greatest_count ≤ place)) →
       HasReadFrom told is_calm faults (refused fault ≡ refused check.Failed) old mid →
       (is_calm old → IsSome (named_text (told old) word) → refused fault ≢ refused check.Failed) →
       EndsLive words (seen_of told faults old mid) (is_calm old) before before (Some stop)
-  at_check fault stop is judged read serves =
+  at_check fault stop is judged late read serves =
       let failed : refused fault ≡ refused check.Failed → fault ≡ check.Failed = λ e. cc in
       inr (inl (record {
         settings = s;
@@ -85,6 +87,9 @@ module _ {I : Type 0} (told : I → Told) (is_calm : I → Type 0) (faults : I �
         judged = λ other.
             subst (λ w. ForSome (named_text (told old) w) (λ text. IsJudged text greatest_count (Err fault))) same
             (judged (λ e. other (failed e)));
+        late = λ place until e.
+            let numbers = late place until (ap refused e) in
+            (sym numbers.0, subst (λ n. n ≤ place) numbers.0 numbers.1);
         untouched = refl;
         read = record {
           rose = λ e. read.rose (ap refused e);

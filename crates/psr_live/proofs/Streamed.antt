@@ -1,5 +1,5 @@
 -- What the calls of a search leave.
-use Rattle.std.proofs.Common.{◌≡◌, ℕ, ◌+◌, ◌-◌, ◌≤◌, ◌<◌, ◌++◌, List, [], length, take, drop, refl, sym, ◌∙◌, ap, subst, append-nil, append_assoc, get_or, Fits, w8, arith}
+use Rattle.std.proofs.Common.{◌≡◌, ℕ, ◌-◌, ◌≤◌, ◌<◌, ◌++◌, List, [], length, take, drop, refl, sym, ◌∙◌, ap, subst, append-nil, append_assoc, get_or, Fits, w8, arith}
 use Rattle.std.specs.Prelude.{All, Option, Some, None}
 use Rattle.std.specs.Io.KnownBytes.{append_known}
 use Rattle.std.proofs.lemmas.List.{take-append-drop, take_all}

@@ -4,3 +4,5 @@ pub mod Task
 pub mod Texts
 pub mod Outcome
 pub mod Reads
+pub mod Causes
+pub mod Sample

@@ -1,6 +1,6 @@
 -- How a search ends that prints its parts while the data come, and what its exit status says.
 -- Source: this project's choice.
-use Rattle.std.specs.Prelude.{◌≡◌, ◌≢◌, ℕ, ◌+◌, ◌<◌, ◌≤◌, ◌⊎◌, List, length, Option, Some, None, Err}
+use Rattle.std.specs.Prelude.{◌≡◌, ◌≢◌, ℕ, ◌+◌, ◌<◌, ◌≤◌, ◌⊎◌, List, length, Option, Some, None, Err, Contains}
 use Rattle.std.specs.Option.{ForSome}
 use Rattle.dada_model.specs.Fields.{HeaderText}
 use Rattle.dada_model.specs.Observation.{Observation}
@@ -40,7 +40,7 @@ use Rattle.psr_part.specs.Part.{check_names, check_text_of}
 use Rattle.psr_part.specs.Texts.{end_status, stop_of_checkpoint}
 use Rattle.psr_live.specs.declared.task.LiveRefusal.{LiveRefusal}
 use Rattle.psr_live.specs.Task.{LeavesLive, RefusesLive, spectra_of, text_of}
-use Rattle.psr_live.specs.Texts.{live_note, stop_of_stream}
+use Rattle.psr_live.specs.Texts.{live_note, live_statuses, stop_of_stream}
 use Rattle.psr_live.specs.Words.{every_in, live_alone}
 
 -- ---- what it is over
@@ -92,6 +92,8 @@ pub record EndsAtCheck (words : List (List ℕ)) (inputs : InputsSeen) (is_calm 
   pub is : stop ≡ Some (stop_of_checkpoint fault)
   pub judged : fault ≢ check.Failed → ForSome (check_text_of inputs.told words)
       (λ text. IsJudged text greatest_count (Err fault))
+  pub late : (place until : ℕ) → fault ≡ check.Place place until →
+      (until ≡ greatest_count) × (until ≤ place)
   pub untouched : after ≡ before
   pub read : CountsFaults inputs is_calm (check_names words) (fault ≡ check.Failed)
 
@@ -150,11 +152,12 @@ EndsLive words inputs is_calm before after stop = EndsAtWords words inputs befor
 -- ---- the outcome
 
 -- The outcome of the search for these words over these inputs, which may be calm: its exit status, and its line to the
--- notes, are those of its stop, if it came to one; and it ended so.
+-- notes, are those of its stop, if it came to one; and it ended so. There is no other status.
 pub record Outcome (words : List (List ℕ)) (inputs : InputsSeen) (is_calm : Type 0)
     (out_before out_after notes_before notes_after : SinkSeen) (status : ℕ) : Type 0 where
   pub stop : Option PartStop
   pub answered : status ≡ end_status stop
+  pub known : Contains live_statuses status
   pub ends : EndsLive words inputs is_calm out_before out_after stop
   pub silent : stop ≡ None → notes_after ≡ notes_before
   pub noted : (what : PartStop) → stop ≡ Some what →

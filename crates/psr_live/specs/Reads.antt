@@ -1,14 +1,29 @@
--- What a search has read at want of memory, and what a fault of the inputs leaves.
+-- What a search has read at want of memory, what a fault of the inputs leaves, and what a refused checkpoint says.
 -- Source: this project's choice.
-use Rattle.std.specs.Prelude.{◌≡◌, ◌⊎◌, ℕ, List}
+use Rattle.std.specs.Prelude.{◌≡◌, ◌⊎◌, ⊤, ℕ, ◌<◌, ◌≤◌, List, Option, Some}
+use Rattle.std.specs.Option.{ForSome}
 use Rattle.psr_base.specs.Told.{Told}
+use Rattle.psr_base.specs.Written.{SinkSeen, Noted}
 use Rattle.search_words.specs.Settings.{SettingsSeen, with_search}
+use Rattle.stream_model.specs.Walk as walk
+use Rattle.stream_model.specs.Walk.{walk_stop}
+use Rattle.stream_model.specs.WalkLaws.{AreWalked}
 use Rattle.warm_restart.specs.declared.checkpoint.Checkpoint.{Checkpoint}
-use Rattle.run_stop.specs.Firsts.{BreaksFirstAt, ReadsFirsts}
+use Rattle.warm_restart.specs.Checkpoint.{IsCheckpointText, IsNoCheckpointText}
+use Rattle.warm_restart.specs.Counts.{greatest_count}
+use Rattle.run_stop.specs.declared.stop.Stop.TheVariants.{Memory, ReadFault}
+use Rattle.run_stop.specs.Firsts.{BreaksFirstAt, ReadsFirsts, first_file}
+use Rattle.run_stop.specs.Runs.{CanSearch}
 use Rattle.search_opening.specs.Settings.{OfRunFirsts}
 use Rattle.drive_stream.specs.Outcome.{BreaksData}
+use Rattle.psr_part.specs.declared.stop.CheckpointRefusal.{CheckpointRefusal}
+use Rattle.psr_part.specs.declared.stop.CheckpointRefusal.TheVariants.{Form, Place, Beyond}
+use Rattle.psr_part.specs.declared.stop.PartStop.{PartStop}
+use Rattle.psr_part.specs.declared.stop.PartStop.TheVariants.{Run, Refused}
 use Rattle.psr_part.specs.Outcome.{BreaksAtCheck, ReadsCheck}
-use Rattle.psr_live.specs.Outcome.{GoesOnFrom, SayLive}
+use Rattle.psr_part.specs.Part.{check_text_of}
+use Rattle.psr_part.specs.Texts.{refusal_text}
+use Rattle.psr_live.specs.Outcome.{ForLive, GoesOnFrom, SayLive, spectra_in}
 
 -- CHECK was read and accepted, and P holds of the settings, and of what the inputs told then
 pub record AfterCheck (words : List (List ℕ)) (before : Told)
@@ -32,3 +47,45 @@ abbrev pub LeavesAtFault : List (List ℕ) → Type 0 → Told → Told → Type
 LeavesAtFault words is_calm before after = BreaksAtCheck words is_calm before after
     ⊎ AfterCheck words before (λ s told. BreaksFirstAt s.names s.starts is_calm told after
     ⊎ BreaksData (with_search tt s) is_calm told after)
+
+-- ---- a checkpoint that is refused
+
+-- the checkpoint was accepted, and all data were read, which end before its place: they have so many spectra
+pub record IsBeyond (words : List (List ℕ)) (told : Told) (place spectra : ℕ) : Type 0 where
+  pub from : Checkpoint
+  pub goes_on : GoesOnFrom told words from
+  pub short : ForLive words told (λ s w. AreWalked w × CanSearch s.search (first_file w 0)
+      × (walk_stop w ≡ walk.Whole) × (place ≡ from.place) × (spectra ≡ spectra_in w)
+      × (spectra < place))
+
+-- What a refusal says: the text of CHECK is no checkpoint text; or its place is not before the greatest number of
+-- spectra; or data end before it.
+abbrev pub IsRefused : List (List ℕ) → Told → CheckpointRefusal → Type 0
+IsRefused words told Form = ForSome (check_text_of told words) IsNoCheckpointText
+IsRefused words told (Place place until) = (until ≡ greatest_count) × (until ≤ place)
+    × ForSome (check_text_of told words) (λ text.
+    (c : Checkpoint) × IsCheckpointText text c × (c.place ≡ place))
+IsRefused words told (Beyond place spectra) = IsBeyond words told place spectra
+
+-- what was read at a refusal of the text of CHECK: that text, and nothing else
+abbrev pub ReadsRefused : List (List ℕ) → Told → Told → CheckpointRefusal → Type 0
+ReadsRefused words before after (Beyond place spectra) = ⊤
+ReadsRefused words before after refusal = ReadsCheck words before after
+
+-- a refusal, which is so; and the notes took its line, or its front at a fault of theirs
+pub record NotesRefusal (words : List (List ℕ)) (before after : Told)
+    (notes_before notes_after : SinkSeen) : Type 0 where
+  pub refusal : CheckpointRefusal
+  pub cause : IsRefused words before refusal
+  pub read : ReadsRefused words before after refusal
+  pub line : Noted (refusal_text refusal) notes_before notes_after
+
+-- ---- by the stop of a search
+
+-- what was read of the inputs at want of memory, at a fault of theirs, and at a refusal
+pub record LeavesFiles (words : List (List ℕ)) (is_calm : Type 0) (before after : Told)
+    (stop : Option PartStop) : Type 0 where
+  pub early : stop ≡ Some (Run Memory) → ReadsNoData words before after
+  pub broken : stop ≡ Some (Run ReadFault) → LeavesAtFault words is_calm before after
+  pub refused : (refusal : CheckpointRefusal) → stop ≡ Some (Refused refusal) →
+      ReadsRefused words before after refusal

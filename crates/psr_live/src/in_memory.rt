@@ -2,7 +2,7 @@
 ghost use Rattle.std.specs.Prelude.{◌≡◌, [], map, string_bytes};
 ghost use Rattle.psr_base.specs.InMemory.{told_of, calls_of, sink_seen};
 ghost use Rattle.psr_live.specs.Outcome.{Outcome, WritesText};
-ghost use Rattle.psr_live.specs.Reads.{LeavesAtFault, ReadsNoData};
+ghost use Rattle.psr_live.specs.Reads.{LeavesAtFault, NotesRefusal, ReadsNoData};
 
 use crate::top::run_live;
 use psr_base::{MemInputs, MemSink};
@@ -30,6 +30,8 @@ pub fn run_live_in_memory<R: Wait>(
         (sink_seen out.old) (sink_seen out.new) }
     ensures early { result ≡ 5
         → ReadsNoData (map string_bytes words.now) (told_of inputs.old) (told_of inputs.new) }
+    ensures refused { result ≡ 13 → NotesRefusal (map string_bytes words.now)
+        (told_of inputs.old) (told_of inputs.new) (sink_seen notes.old) (sink_seen notes.new) }
     ensures broken { result ≡ 6 → LeavesAtFault (map string_bytes words.now)
         ((calls_of inputs.old).fail ≡ []) (told_of inputs.old) (told_of inputs.new) }
 {

@@ -2,6 +2,7 @@
 #![tactic(auto)]
 
 mod in_memory;
+mod laws;
 mod stop;
 mod task;
 mod telling;
@@ -9,4 +10,5 @@ mod top;
 mod words;
 
 pub use in_memory::run_live_in_memory;
+pub use laws::{causes_are_answered, samples_are_found};
 pub use top::run_live;

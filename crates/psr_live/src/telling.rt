@@ -1,7 +1,8 @@
 // How the user is told.
 ghost use Rattle.std.specs.Prelude.{◌≡◌, None, Some, IfSome};
 ghost use Rattle.run_stop.specs.declared.stop.Stop.TheVariants.{Memory, ReadFault};
-ghost use Rattle.psr_part.specs.declared.stop.PartStop.TheVariants.{Run};
+ghost use Rattle.psr_part.specs.declared.stop.CheckpointRefusal.{CheckpointRefusal};
+ghost use Rattle.psr_part.specs.declared.stop.PartStop.TheVariants.{Run, Refused};
 ghost use Rattle.psr_base.specs.Written.{Noted};
 ghost use Rattle.psr_part.specs.Texts.{end_status};
 ghost use Rattle.psr_live.specs.Texts.{live_note};
@@ -16,6 +17,8 @@ pub(crate) fn tell_live<E: Sink>(stop: Option<PartStop>, notes: &mut E) -> u8
     ensures status { result ≡ end_status stop }
     ensures memory { result ≡ 5 → stop ≡ Some (Run Memory) }
     ensures read_fault { result ≡ 6 → stop ≡ Some (Run ReadFault) }
+    ensures refused { result ≡ 13
+        → (refusal : CheckpointRefusal) × (stop ≡ Some (Refused refusal)) }
     ensures silent { stop ≡ None → E.seen notes.new ≡ E.seen notes.old }
     ensures line { IfSome stop (λ what. Noted (live_note what) (E.seen notes.old)
         (E.seen notes.new)) }

@@ -1,22 +1,19 @@
 // The top call.
-ghost use Rattle.std.specs.Prelude.{◌≡◌, Some, map, string_bytes};
-ghost use Rattle.run_stop.specs.declared.stop.Stop.TheVariants.{Memory, ReadFault};
-ghost use Rattle.psr_part.specs.declared.stop.PartStop.TheVariants.{Run};
-ghost use Rattle.psr_part.specs.Texts.{stop_of_checkpoint};
+ghost use Rattle.std.specs.Prelude.{◌≡◌, map, string_bytes};
 ghost use Rattle.psr_live.specs.Outcome.{EndsLive, Outcome, WritesText};
-ghost use Rattle.psr_live.specs.Reads.{LeavesAtFault, ReadsNoData};
+ghost use Rattle.psr_live.specs.Reads.{LeavesAtFault, LeavesFiles, NotesRefusal, ReadsNoData};
 
 use crate::stop::stop_of_stream;
 use crate::task::LiveTask;
 use crate::telling::tell_live;
-use crate::words::{LiveWords, check_of, live_words};
+use crate::words::{LiveWords, live_words};
 use drive_stream::drive_stream;
 use psr_base::{Inputs, Sink};
-use psr_part::{CheckpointRefusal, PartStop};
+use psr_part::{PartStop, check_of};
 use run_stop::Stop;
 use std::alloc::Global;
 use std::sync::Wait;
-use warm_restart::{CheckpointFault, read_checkpoint};
+use warm_restart::read_checkpoint;
 // Laws: they do nothing when they run, and the proofs use what they ensure.
 use drive_stream::causes_are_answered;
 use run_stop::words_say_once;
@@ -24,19 +21,6 @@ use stream_model::bytes_are_joined;
 
 /// No data have more spectra, 2^48.
 const GREATEST_PLACE: u64 = 281_474_976_710_656;
-
-// The stop where no checkpoint was read.
-fn stop_of_check(fault: CheckpointFault) -> PartStop
-    ensures { result ≡ stop_of_checkpoint fault }
-{
-    match fault {
-        CheckpointFault::Failed => PartStop::Run(Stop::ReadFault),
-        CheckpointFault::Form => PartStop::Refused(CheckpointRefusal::Form),
-        CheckpointFault::Place { place, until } => {
-            PartStop::Refused(CheckpointRefusal::Place { place, until })
-        }
-    }
-}
 
 /// Searches the observation of the files that the words name, from a checkpoint on, and writes its text to `out` part by
 /// part, each as soon as its spectra are searched. After the program's name stand EVERY, how many spectra a part has, and
@@ -62,6 +46,8 @@ pub fn run_live<R: Wait, I: Inputs, K: Sink, E: Sink>(
         (K.seen out.old) (K.seen out.new) }
     ensures early { result ≡ 5
         → ReadsNoData (map string_bytes words.now) (I.told inputs.old) (I.told inputs.new) }
+    ensures refused { result ≡ 13 → NotesRefusal (map string_bytes words.now)
+        (I.told inputs.old) (I.told inputs.new) (E.seen notes.old) (E.seen notes.new) }
     ensures broken { result ≡ 6 → LeavesAtFault (map string_bytes words.now)
         (I.is_calm inputs.old) (I.told inputs.old) (I.told inputs.new) }
 {
@@ -86,10 +72,8 @@ fn search<R: Wait, I: Inputs, K: Sink>(
           faults_after = I.faults inputs.new;
         })
         (I.is_calm inputs.old) (K.seen out.old) (K.seen out.new) result }
-    ensures early { result ≡ Some (Run Memory)
-        → ReadsNoData (map string_bytes words.now) (I.told inputs.old) (I.told inputs.new) }
-    ensures broken { result ≡ Some (Run ReadFault) → LeavesAtFault (map string_bytes words.now)
-        (I.is_calm inputs.old) (I.told inputs.old) (I.told inputs.new) }
+    ensures leaves { LeavesFiles (map string_bytes words.now) (I.is_calm inputs.old)
+        (I.told inputs.old) (I.told inputs.new) result }
 {
     let LiveWords { every, settings } = match live_words(alloc, words) {
         Ok(said) => said,
@@ -97,7 +81,7 @@ fn search<R: Wait, I: Inputs, K: Sink>(
     };
     let from = match read_checkpoint(inputs, check_of(words), GREATEST_PLACE) {
         Ok(from) => from,
-        Err(fault) => return Some(stop_of_check(fault)),
+        Err(fault) => return Some(PartStop::of_checkpoint(fault)),
     };
     let task = LiveTask {
         search: settings.search,

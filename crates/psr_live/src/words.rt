@@ -4,12 +4,11 @@ ghost use Rattle.search_words.specs.Settings.{AllInRange, settings_seen};
 ghost use Rattle.warm_restart.specs.Counts.{greatest_count};
 ghost use Rattle.run_stop.specs.Lone.{SayAlone, ExplainsAlone};
 ghost use Rattle.live_search.specs.Live.{IsEvery};
-ghost use Rattle.psr_part.specs.Part.{check_word};
 ghost use Rattle.psr_live.specs.Words.{every_in, has_form, live_alone};
 
 use live_search::STEP;
 use lone_run::settings_after;
-use search_model::Search;
+use psr_part::is_unfolded;
 use search_words::{Settings, WordFault};
 use std::alloc::Global;
 use warm_restart::until_of_word;
@@ -50,22 +49,6 @@ fn whole_steps(every: u64) -> Option<u64>
     } else {
         None
     }
-}
-
-// Whether nothing is folded.
-fn is_unfolded(search: &Search) -> bool
-    ensures unfolded { result ≡ true → search.now.fold_max < search.now.fold_min }
-    ensures folded { result ≡ false → search.now.fold_min ≤ search.now.fold_max }
-{
-    search.fold_max < search.fold_min
-}
-
-/// The word CHECK.
-pub(crate) fn check_of(words: &[String]) -> &str
-    requires { 2 < length words.now }
-    ensures { result.now ≡ check_word (map string_bytes words.now) }
-{
-    words[2].as_str()
 }
 
 /// What the words say: EVERY and its form are judged first, and last that nothing is folded.

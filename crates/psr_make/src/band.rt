@@ -12,13 +12,13 @@ use dada_model::{edges_are_quotients, edges_fall};
 use psr_base::Memory;
 use std::alloc::{AllocError, Global};
 
-/// The centre of the band.
+/// The centre of the band, in Hz.
 const CENTRE_HZ: u64 = 1_382_000_000;
 
-/// The width of the band.
+/// The width of the band, in Hz.
 const WIDTH_HZ: u64 = 400_000_000;
 
-// Edge `k` of the channels in kHz, where 0 is the top of the band.
+// Edge `k` of the channels in kHz. Edge 0 is the top of the band.
 fn edge_of(spec: &MakeSpec, k: u32) -> u32
     requires spec { SpecInRange spec.now }
     requires within { k ≤ spec.now.channels }
@@ -31,7 +31,7 @@ fn edge_of(spec: &MakeSpec, k: u32) -> u32
     ((top - below) / (2000 * channels)) as u32
 }
 
-// The edges of the channels, from the top of the band down.
+// The edges of the channels in kHz, from the top of the band down to its foot.
 fn edges_of(alloc: Global, spec: &MakeSpec) -> Result<Vec<u32>, AllocError>
     requires { SpecInRange spec.now }
     ensures edges { IfOk result (λ e. e.items ≡ edges (made_observation spec.now)) }
@@ -45,7 +45,7 @@ fn edges_of(alloc: Global, spec: &MakeSpec) -> Result<Vec<u32>, AllocError>
     Ok(edges)
 }
 
-/// The delay path of the pulses: for each edge, how many spectra after its start a pulse passes it.
+/// The delay path of the pulses: for each edge, how many spectra after the top of the band a pulse passes it.
 pub(crate) fn delays_of(alloc: Global, spec: &MakeSpec) -> Result<Vec<u32>, Memory>
     requires { SpecInRange spec.now }
     ensures path { IfOk result (λ delays. delays.items ≡ made_path spec.now) }

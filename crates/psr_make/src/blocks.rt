@@ -1,4 +1,4 @@
-// The file of an observation, a block of bytes at a time.
+// Writing the file of an observation, one block of bytes at a time.
 ghost use Rattle.std.specs.Prelude.{◌≡◌, ◌-◌, ◌*◌, ◌<◌, ◌≤◌, length, OnOk, OnErr};
 ghost use Rattle.psr_base.specs.Made.{Appended};
 ghost use Rattle.psr_make.specs.Made.{spectrum_bytes, data_part, made_header, made_file};
@@ -10,7 +10,7 @@ use psr_base::{Failed, Files, append_all};
 // A law: it does nothing when it runs, and the proofs use what it ensures.
 use psr_base::appends_join;
 
-/// How many bytes are made before they are appended. Some spectra of any observation fit them.
+/// The number of bytes that are made before they are appended. At least one spectrum of any observation fits.
 pub(crate) const BLOCK: usize = 262_144;
 
 // Appends the header.
@@ -51,7 +51,7 @@ fn append_spectra<F: Files>(
     append_all(files, bytes)
 }
 
-// Appends the header and the data.
+// Appends the header and all data.
 fn append_file<F: Files>(maker: &mut Maker, block: &mut [u8], files: &mut F) -> Result<(), Failed>
     requires block { length block.old ≡ BLOCK }
     requires nothing { maker.old.made ≡ 0 }

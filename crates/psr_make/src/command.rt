@@ -1,4 +1,4 @@
-// What clap makes of the words.
+// The command line of psr_make, read by clap.
 ghost use Rattle.std.specs.Prelude.{◌≡◌, ◌≢◌, map, string_bytes, Err, IfOk, IfErr, false};
 ghost use Rattle.clap.specs.Words.{app_of, found_of, rows_of, rule_of, kind_of};
 ghost use Rattle.psr_make.specs.Command.{option_rule, name_rule, make_command, matches_on, TakesWords, IsSimpleLine};
@@ -10,7 +10,7 @@ use clap::error::ErrorKind;
 use clap::{Arg, ArgMatches, Command, Error};
 use std::alloc::{AllocError, Global};
 
-// An option.
+// An option, which takes a value.
 fn option<'a>(alloc: Global, opt: Opt) -> Arg<'a>
     ensures rule { rule_of result ≡ option_rule opt }
     ensures here { result.global ≡ false }
@@ -19,7 +19,7 @@ fn option<'a>(alloc: Global, opt: Opt) -> Arg<'a>
     Arg::new(alloc, name).long(name)
 }
 
-// The name of the file.
+// The argument for the name of the file.
 fn file_name<'a>(alloc: Global) -> Arg<'a>
     ensures rule { rule_of result ≡ name_rule }
     ensures here { result.global ≡ false }
@@ -27,7 +27,7 @@ fn file_name<'a>(alloc: Global) -> Arg<'a>
     Arg::new(alloc, "NAME").required(true)
 }
 
-// The command.
+// The command with all options and the name of the file.
 fn command<'a>(alloc: Global) -> Result<Command<'a>, AllocError>
     ensures { IfOk result (λ c. app_of c ≡ make_command) }
 {
@@ -38,7 +38,7 @@ fn command<'a>(alloc: Global) -> Result<Command<'a>, AllocError>
     command.arg(file_name(alloc))
 }
 
-// The stop of an error of clap's.
+// The stop that an error of clap stands for.
 fn stop_of(error: Error) -> Stop
     ensures { result ≡ stop_of_kind (kind_of error) }
 {
@@ -48,7 +48,7 @@ fn stop_of(error: Error) -> Stop
     }
 }
 
-/// What clap finds in the words, of which the first is the program's name.
+/// What clap finds in the arguments `words`, of which the first is the program's name.
 pub(crate) fn matches_of<'a>(alloc: Global, words: &'a [String]) -> Result<ArgMatches<'a>, Stop>
     ensures taken { IfOk result (λ m. TakesWords (map string_bytes words.now)) }
     ensures found { IfOk result (λ m.

@@ -1,4 +1,4 @@
-// Noise from the draws of a number.
+// Noise from random draws.
 ghost use Rattle.std.specs.Prelude.{◌≡◌, ℕ, ◌+◌, ◌%◌, ◌⊎◌, length};
 ghost use Rattle.psr_make.specs.Draws.{noise, state_after};
 ghost use Rattle.psr_make.specs.Noise.{FillsNoise};
@@ -19,7 +19,7 @@ fn next_noise(draws: &mut SplitMix64) -> u8
     (draws.next_word() % (1 << 32)).count_ones() as u8
 }
 
-// Writes the noise of the next draws over values of one byte.
+// Overwrites values of one byte with the noise of the next draws.
 fn fill_bytes(draws: &mut SplitMix64, values: &mut [u8])
     ensures { FillsNoise 1 draws.old draws.new values.new }
 {
@@ -28,7 +28,7 @@ fn fill_bytes(draws: &mut SplitMix64, values: &mut [u8])
     }
 }
 
-// The same over values of two bytes, the low byte first.
+// Overwrites values of two bytes, the low byte first, with the noise of the next draws.
 fn fill_words(draws: &mut SplitMix64, values: &mut [u8])
     requires { length values.old % 2 ≡ 0 }
     ensures { FillsNoise 2 draws.old draws.new values.new }
@@ -39,7 +39,7 @@ fn fill_words(draws: &mut SplitMix64, values: &mut [u8])
     }
 }
 
-/// Writes the noise of the next draws over values of `wide` bytes, 1 or 2, the low byte first.
+/// Overwrites values of `wide` bytes, 1 or 2, the low byte first, with the noise of the next draws.
 pub(crate) fn fill_noise(draws: &mut SplitMix64, wide: usize, values: &mut [u8])
     requires wide { (wide ≡ 1) ⊎ (wide ≡ 2) }
     requires whole { length values.old % wide ≡ 0 }

@@ -5,7 +5,7 @@ ghost use Rattle.psr_make.specs.Made.{made_text, made_header};
 use crate::spec::MakeSpec;
 use text_line::Line;
 
-/// The bytes of the header.
+/// The size of the header, in bytes.
 pub(crate) const HEADER: usize = 4096;
 
 // The text of the header.
@@ -26,7 +26,7 @@ fn text_of(spec: &MakeSpec) -> Line
     text
 }
 
-// Writes a text over bytes, and NUL over the rest of them.
+// Writes a text to the front of `bytes`, and NUL over the rest.
 fn write_text(text: &[u8], bytes: &mut [u8])
     requires { length text.now ≤ length bytes.old }
     ensures { bytes.new ≡ text.now ++ replicate (length bytes.old - length text.now) 0 }
@@ -36,7 +36,7 @@ fn write_text(text: &[u8], bytes: &mut [u8])
     bytes[text.len()..size].fill(0);
 }
 
-/// Writes the header over bytes.
+/// Overwrites `bytes` with the header.
 #[tactic(auto, unfolding(dada_model::specs::Fields::header_bytes))]
 pub(crate) fn write_header(spec: &MakeSpec, bytes: &mut [u8])
     requires { length bytes.old ≡ HEADER }

@@ -5,12 +5,12 @@ ghost use Rattle.psr_make.specs.Laws.{DrawsAreSplitMix, TrainGoesByPath};
 use dada_model::edges_fall;
 use search_model::has_one_path;
 
-/// The draws of a number are the words of the generator SplitMix64, seeded with it.
+/// The draws of a seed are the outputs of the generator SplitMix64 with that seed.
 pub fn draws_are_splitmix()
     ensures { DrawsAreSplitMix }
 {}
 
-/// A cell is on the train exactly where some pulse passes it, along any path of the delay.
+/// A cell is on the train of pulses exactly if some pulse passes it, for any path of the delay.
 pub fn train_goes_by_path()
     ensures { TrainGoesByPath }
 {

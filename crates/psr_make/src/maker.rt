@@ -1,4 +1,4 @@
-// The data of an observation, made from the first spectrum on.
+// Making the data of an observation, from the first spectrum on.
 ghost use Rattle.std.specs.Prelude.{◌≡◌, ◌+◌, ◌*◌, ◌<◌, ◌≤◌, All, length, IfOk};
 ghost use Rattle.band_paths.specs.Edges.{AreDelays};
 ghost use Rattle.psr_make.specs.Draws.{state_after};
@@ -33,8 +33,8 @@ fn raise_train(spec: &MakeSpec, delays: &[u32], first: usize, count: usize, byte
     }
 }
 
-// Writes `count` spectra over bytes, the first of them with the number `first`, at whose draws the generator
-// stands.
+// Overwrites `bytes` with `count` spectra, of which the first has the number `first`. `draws` must stand at the draws
+// of that spectrum.
 fn write_spectra(
     spec: &MakeSpec,
     delays: &[u32],
@@ -58,7 +58,7 @@ fn write_spectra(
     raise_train(spec, delays, first, count, bytes);
 }
 
-/// The data of an observation, as far as they were made.
+/// Makes the data of an observation: how far it has come.
 #[derive(Drop)]
 pub(crate) struct Maker {
     spec: MakeSpec,
@@ -76,7 +76,7 @@ impl Model for Maker {
 }
 
 impl Maker {
-    /// No spectrum is made yet.
+    /// A maker that has made no spectrum yet.
     pub(crate) fn open(alloc: Global, spec: &MakeSpec) -> Result<Maker, Memory>
         requires { SpecInRange spec.now }
         ensures { IfOk result (λ m. m ≡ record { spec = spec.now; made = 0 }) }
@@ -90,7 +90,7 @@ impl Maker {
         })
     }
 
-    /// What the data are made from.
+    /// What the observation is made from.
     pub(crate) fn spec(&self) -> &MakeSpec
         ensures spec { result.now ≡ self.now.spec }
         ensures in_range { SpecInRange self.now.spec }
@@ -99,14 +99,14 @@ impl Maker {
         &self.spec
     }
 
-    /// How many spectra are left to make.
+    /// The number of spectra that are left to make.
     pub(crate) fn left(&self) -> usize
         ensures { self.now.made + result ≡ self.now.spec.spectra }
     {
         self.spec.spectra as usize - self.made
     }
 
-    /// Writes the next `count` spectra over bytes.
+    /// Overwrites `bytes` with the next `count` spectra.
     pub(crate) fn write(&mut self, count: usize, bytes: &mut [u8])
         requires left { self.old.made + count ≤ self.old.spec.spectra }
         requires whole { count * spectrum_bytes self.old.spec ≡ length bytes.old }

@@ -1,5 +1,5 @@
-// Made observations, as bytes and as files.
-ghost use Rattle.std.specs.Prelude.{◌≡◌, ◌+◌, ◌*◌, length, IfOk, OnOk, Err};
+// Making observations, as bytes and as files.
+ghost use Rattle.std.specs.Prelude.{◌≡◌, ◌≢◌, ◌+◌, ◌*◌, length, IfOk, OnOk, Err};
 ghost use Rattle.psr_make.specs.Made.{SpecInRange, spectrum_bytes, made_file};
 ghost use Rattle.psr_make.specs.Filed.{FileMade, MakingStopped};
 
@@ -22,7 +22,7 @@ pub enum MakeStop {
     Memory,
 }
 
-// Writes the header and the data over bytes.
+// Overwrites `bytes` with the header and the data.
 fn write_all_bytes(spec: &MakeSpec, maker: &mut Maker, bytes: &mut [u8])
     requires spec { SpecInRange spec.now }
     requires whole { length bytes.old ≡ HEADER + spec.now.spectra * spectrum_bytes spec.now }
@@ -34,7 +34,7 @@ fn write_all_bytes(spec: &MakeSpec, maker: &mut Maker, bytes: &mut [u8])
     maker.write(spec.spectra as usize, data);
 }
 
-/// The bytes of the observation: its header and its data.
+/// The bytes of an observation: its header and its data.
 pub fn make_bytes(alloc: Global, spec: &MakeSpec) -> Result<Vec<u8>, Memory>
     requires { SpecInRange spec.now }
     ensures { IfOk result (λ bytes. bytes.items ≡ made_file spec.now) }
@@ -45,8 +45,9 @@ pub fn make_bytes(alloc: Global, spec: &MakeSpec) -> Result<Vec<u8>, Memory>
     Ok(bytes)
 }
 
-/// Makes the file of the observation: creates it, appends header and data, and finishes it. The bytes are made and
-/// appended a block at a time. At a fault the file was not created, or it is unfinished and holds a front of the bytes.
+/// Makes the file of an observation: creates it, appends the header and the data, and finishes it. The bytes are made
+/// and appended one block at a time. After a fault the file was not created, or it is unfinished and holds a front of
+/// the bytes.
 pub fn make<F: Files>(
     alloc: Global,
     spec: &MakeSpec,
@@ -57,7 +58,7 @@ pub fn make<F: Files>(
     requires closed { ¬ F.is_open files.old }
     ensures made { OnOk result
         (FileMade name.now (made_file spec.now) (F.seen files.old) (F.seen files.new)) }
-    ensures closed { OnOk result (¬ F.is_open files.new) }
+    ensures closed { result ≢ Err MakeStop.FileFault → ¬ F.is_open files.new }
     ensures fault { result ≡ Err MakeStop.FileFault
         → MakingStopped name.now (made_file spec.now) (F.seen files.old) (F.seen files.new) }
     ensures memory { result ≡ Err MakeStop.Memory → F.seen files.new ≡ F.seen files.old }

@@ -30,7 +30,7 @@ pub(crate) const OPTIONS: [Opt; 8] = [
 ];
 
 impl Opt {
-    /// Its name as the table of options has it, without dashes.
+    /// The name of the option without its dashes, as in the table of options.
     pub fn name(self) -> &'static str
         ensures { result.now ≡ option_name self }
     {
@@ -46,7 +46,7 @@ impl Opt {
         }
     }
 
-    /// Its row.
+    /// The row of the option in the table.
     pub(crate) fn row(self) -> Row
         ensures { result ≡ option_row self }
     {

@@ -1,4 +1,4 @@
-// Pulses, added to the bytes of spectra.
+// Adding pulses to the bytes of spectra.
 ghost use Rattle.std.specs.Prelude.{◌≡◌, ℕ, ◌+◌, ◌*◌, ◌/◌, ◌%◌, ◌<◌, ◌≤◌, All, length, slice_index};
 ghost use Rattle.dada_model.specs.Bounds.{most_delay};
 ghost use Rattle.psr_make.specs.Made.{SpecInRange, value_bytes, cell_bytes, spectrum_bytes};
@@ -32,7 +32,7 @@ fn raise_words(values: &mut [u8], height: u8)
     }
 }
 
-// Adds the height of the pulses to a cell's values.
+// Adds the height of the pulses to the values of a cell.
 #[inline(always)]
 fn raise_values(spec: &MakeSpec, values: &mut [u8])
     requires spec { SpecInRange spec.now }
@@ -61,7 +61,7 @@ fn raise_cell(spec: &MakeSpec, cell: usize, bytes: &mut [u8])
     raise_values(spec, &mut bytes[start..start + wide]);
 }
 
-// Adds it to the cells of a channel, of the spectra `start..end` of the bytes.
+// Adds the height of the pulses to the cells of a channel in the spectra `start..end` of `bytes`.
 fn raise_run(spec: &MakeSpec, channel: usize, start: usize, end: usize, bytes: &mut [u8])
     requires spec { SpecInRange spec.now }
     requires channel { channel < spec.now.channels }
@@ -75,8 +75,8 @@ fn raise_run(spec: &MakeSpec, channel: usize, start: usize, end: usize, bytes: &
     }
 }
 
-/// Adds the pulses to a channel, which they enter and leave after these delays. The bytes have `count` spectra,
-/// of which the first has the number `first`.
+/// Adds the pulses to a channel. A pulse enters it `enters` spectra after the top of the band, and leaves it `leaves`
+/// spectra after. `bytes` has `count` spectra, of which the first has the number `first`.
 pub(crate) fn raise_channel(
     spec: &MakeSpec,
     channel: usize,

@@ -1,4 +1,4 @@
-// What the words ask for.
+// What the arguments ask for.
 ghost use Rattle.std.specs.Prelude.{◌≡◌, map, string_bytes, option_map, None, IfOk, IfErr};
 ghost use Rattle.clap.specs.Words.{found_of, rows_of, first_of};
 ghost use Rattle.psr_make.specs.Made.{SpecInRange};
@@ -21,7 +21,7 @@ pub(crate) struct Request<'a> {
     pub(crate) name: &'a str,
 }
 
-// The first text that was found under a name.
+// The first text that clap found under a name.
 fn text<'a>(matches: &ArgMatches<'a>, name: &str) -> Option<&'a str>
     ensures { option_map (λ text. text.now) result
         ≡ first_of name.now (rows_of (found_of matches.now)) }
@@ -29,21 +29,21 @@ fn text<'a>(matches: &ArgMatches<'a>, name: &str) -> Option<&'a str>
     matches.get_str(name)
 }
 
-// The value of an option, where it is in its range.
+// The value of an option, or `None` if it is out of its range.
 fn value(matches: &ArgMatches<'_>, opt: Opt) -> Option<u64>
     ensures { result ≡ option_value (rows_of (found_of matches.now)) opt }
 {
     opt.row().value_of(text(matches, opt.name()))
 }
 
-// The same as a number, which is 0 where the value is out of its range.
+// The value of an option, or 0 if it is out of its range.
 fn number(matches: &ArgMatches<'_>, opt: Opt) -> u64
     ensures { result ≡ option_number (rows_of (found_of matches.now)) opt }
 {
     value(matches, opt).unwrap_or(0)
 }
 
-// The first option, in the table's order, whose value is out of its range.
+// The first option, in the order of the table, whose value is out of its range.
 fn first_out_of_range(matches: &ArgMatches<'_>) -> Option<Opt>
     ensures { result ≡ first_out_of_range_of (rows_of (found_of matches.now)) }
 {
@@ -53,7 +53,7 @@ fn first_out_of_range(matches: &ArgMatches<'_>) -> Option<Opt>
         .find(|opt| value(matches, *opt).is_none())
 }
 
-// What the values make an observation from.
+// What the observation is made from, by the values of the options.
 fn spec_of(matches: &ArgMatches<'_>) -> MakeSpec
     requires { first_out_of_range_of (rows_of (found_of matches.now)) ≡ None }
     ensures values { result ≡ spec_of_found (rows_of (found_of matches.now)) }
@@ -74,7 +74,7 @@ fn spec_of(matches: &ArgMatches<'_>) -> MakeSpec
 }
 
 impl<'a> Request<'a> {
-    /// Reads the words, of which the first is the program's name.
+    /// Reads the arguments `words`, of which the first is the program's name.
     pub(crate) fn of(alloc: Global, words: &'a [String]) -> Result<Request<'a>, Stop>
         ensures asks { IfOk result (λ r. Asks (map string_bytes words.now) r.spec r.name.now) }
         ensures in_range { IfOk result (λ r. SpecInRange r.spec) }

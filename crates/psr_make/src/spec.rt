@@ -2,29 +2,29 @@
 ghost use Rattle.std.specs.Prelude.{◌≡◌, ◌↔◌, ◌≤◌, ◌*◌, IsTrue};
 ghost use Rattle.psr_make.specs.Made.{SpecInRange, value_bytes, cell_bytes, spectrum_bytes};
 
-/// What an observation is made from: the number of its draws, its shape, and its pulses.
+/// What an observation is made from: the seed of its noise, its shape, and its pulses.
 #[derive(Clone, Copy, PartialEq, Eq, Debug)]
 pub struct MakeSpec {
-    /// The seed of its draws: at most 2^63 - 1.
+    /// The seed of the noise: at most 2^63 - 1.
     pub number: u64,
-    /// 2 to 4096.
+    /// The number of channels: 2 to 4096.
     pub channels: u32,
-    /// At most 1048576.
+    /// The number of spectra: at most 1048576.
     pub spectra: u32,
-    /// How many spectra a pulse takes from the top of the band to its foot: at most 8192.
+    /// The delay of a pulse from the top of the band to its foot, in spectra: at most 8192.
     pub delay: u32,
-    /// How many spectra there are from one pulse to the next: 1 to 1048576.
+    /// The number of spectra from one pulse to the next: 1 to 1048576.
     pub period: u32,
-    /// What is added to each value that a pulse passes, once where several do: at most 200.
+    /// What is added to each value that a pulse passes: at most 200. If several pulses pass it, it is added once.
     pub height: u32,
-    /// The bits of a value: 8 or 16.
+    /// The number of bits of a value: 8 or 16.
     pub nbit: u32,
-    /// The polarisations, of which each has a value: 1 or 2.
+    /// The number of polarisations, each of which has a value: 1 or 2.
     pub npol: u32,
 }
 
 impl MakeSpec {
-    /// Whether each field lies in its range.
+    /// Whether each field is in its range.
     pub fn in_range(&self) -> bool
         ensures { IsTrue result ↔ SpecInRange self.now }
     {
@@ -38,7 +38,7 @@ impl MakeSpec {
             && matches!(self.npol, 1 | 2)
     }
 
-    // The bytes of a value.
+    // The size of a value, in bytes.
     pub(crate) fn value_bytes(&self) -> usize
         requires { SpecInRange self.now }
         ensures { result ≡ value_bytes self.now }
@@ -46,7 +46,7 @@ impl MakeSpec {
         self.nbit as usize / 8
     }
 
-    // The bytes of a cell: the values of all polarisations of a channel in a spectrum.
+    // The size of a cell, in bytes: the values of all polarisations of one channel in one spectrum.
     pub(crate) fn cell_bytes(&self) -> usize
         requires { SpecInRange self.now }
         ensures bytes { result ≡ cell_bytes self.now }
@@ -55,7 +55,7 @@ impl MakeSpec {
         self.npol as usize * self.nbit as usize / 8
     }
 
-    // The bytes of a spectrum.
+    // The size of a spectrum, in bytes.
     pub(crate) fn spectrum_bytes(&self) -> usize
         requires { SpecInRange self.now }
         ensures bytes { result ≡ spectrum_bytes self.now }
@@ -65,7 +65,7 @@ impl MakeSpec {
         self.channels as usize * self.cell_bytes()
     }
 
-    // The bytes of all spectra.
+    // The size of all spectra, in bytes.
     pub(crate) fn data_bytes(&self) -> usize
         requires { SpecInRange self.now }
         ensures { result ≡ self.now.spectra * spectrum_bytes self.now }

@@ -7,7 +7,7 @@ use text_line::Line;
 /// Why the program ended without a whole file.
 #[derive(Clone, Copy, Debug, PartialEq, Eq)]
 pub enum Stop {
-    /// The words don't ask for an observation.
+    /// The arguments don't ask for an observation.
     Words,
     /// The value of an option is out of its range.
     Value(Opt),
@@ -31,7 +31,7 @@ impl Stop {
         }
     }
 
-    /// The line that tells the user.
+    /// The line that tells the user why.
     pub fn note(self) -> Line
         ensures { result ≡ note_of self }
     {

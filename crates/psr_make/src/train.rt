@@ -1,4 +1,4 @@
-// The pulses, by the runs of spectra at which they pass a channel.
+// The pulses of a channel, as the runs of spectra at which they pass it.
 ghost use Rattle.std.specs.Prelude.{◌≤◌};
 ghost use Rattle.dada_model.specs.Bounds.{most_delay};
 ghost use Rattle.psr_make.specs.Made.{SpecInRange};
@@ -6,15 +6,16 @@ ghost use Rattle.psr_make.specs.Runs.{IsNextRun};
 
 use crate::spec::MakeSpec;
 
-/// The spectra from `start` up to, but without, `end`.
+/// The spectra `start..end`: `end` is not among them.
 #[derive(Clone, Copy)]
 pub(crate) struct Run {
     pub(crate) start: usize,
     pub(crate) end: usize,
 }
 
-/// The next spectra within `from..to` at which a pulse passes a channel that pulses enter and leave after
-/// these delays. Where there are none, the run is empty and stands at `to`.
+/// The next spectra within `from..to` at which a pulse passes a channel. A pulse enters the channel `enters` spectra
+/// after the top of the band, and leaves it `leaves` spectra after. If there are none, the run is empty and stands at
+/// `to`.
 pub(crate) fn next_run(spec: &MakeSpec, enters: usize, leaves: usize, from: usize, to: usize) -> Run
     requires spec { SpecInRange spec.now }
     requires passage { enters ≤ leaves }

@@ -1,5 +1,5 @@
 -- Statuses and stops.
-use Rattle.std.proofs.Common.{◌≡◌, ◌≤◌, ℕ, zero, suc, List, [], ◌∷◌, refl, subst, None, Contains, arith}
+use Rattle.std.proofs.Common.{◌≡◌, ℕ, zero, suc, List, [], ◌∷◌, refl, subst, None, Contains, arith}
 use Rattle.disk_feeder.specs.declared.answers.FeedEnd.{FeedEnd}
 use Rattle.disk_feeder.specs.declared.answers.FeedEnd.TheVariants as feed
 use Rattle.run_stop.specs.Conversions.{stop_of_feed}
@@ -32,21 +32,6 @@ by_status P n (suc (suc (suc (suc (suc (suc (suc (suc (suc (suc zero))))))))), b
 by_status P n (suc (suc (suc (suc (suc (suc (suc (suc (suc (suc (suc k)))))))))), below, is) p0 p2 p3 p4 p5 p6 p7 p8 p9
     p10 p12 =
     absurd (omega (arith, below))
-
--- the stop of any run has another status than a mask
-pub of_run : (stop : Stop) → status_of stop ≤ 11
-of_run Words = omega arith
-of_run (Value opt) = omega arith
-of_run (Header file cause) = omega arith
-of_run (Plan cause) = omega arith
-of_run (Recording cause) = omega arith
-of_run Memory = omega arith
-of_run ReadFault = omega arith
-of_run (Gap file expected found) = omega arith
-of_run (TooLong limit) = omega arith
-of_run (TooMany count limit) = omega arith
-of_run SinkFault = omega arith
-of_run FileFault = omega arith
 
 -- 6 is the status of a fault of the inputs
 pub fault_is : (stop : Stop) → status_of stop ≡ 6 → stop ≡ ReadFault

@@ -19,3 +19,4 @@ pub use laws::{
 };
 pub use stop::{CheckpointRefusal, PartStop};
 pub use top::run_part;
+pub use words::{check_of, is_unfolded};

@@ -67,7 +67,7 @@ impl PartStop {
     ghost use Rattle.psr_part.specs.Texts.{stop_of_checkpoint};
 
     /// The stop if no checkpoint was read.
-    pub(crate) fn of_checkpoint(fault: CheckpointFault) -> PartStop
+    pub fn of_checkpoint(fault: CheckpointFault) -> PartStop
         ensures { result ≡ stop_of_checkpoint fault }
     {
         match fault {

@@ -34,8 +34,8 @@ fn until_said(words: &[String]) -> Option<u64>
     until_of_word(words[1].as_str())
 }
 
-// Whether nothing is folded.
-fn is_unfolded(search: &Search) -> bool
+/// Whether nothing is folded.
+pub fn is_unfolded(search: &Search) -> bool
     ensures unfolded { result ≡ true → search.now.fold_max < search.now.fold_min }
     ensures folded { result ≡ false → search.now.fold_min ≤ search.now.fold_max }
 {
@@ -43,7 +43,7 @@ fn is_unfolded(search: &Search) -> bool
 }
 
 /// The argument CHECK.
-pub(crate) fn check_of(words: &[String]) -> &str
+pub fn check_of(words: &[String]) -> &str
     requires { 2 < length words.now }
     ensures { result.now ≡ check_word (map string_bytes words.now) }
 {

@@ -25,9 +25,6 @@ module _ {A : Type 0} where
   at_end (x ∷ xs) a zero e = absurd (omega arith)
   at_end (x ∷ xs) a (suc n) e = at_end xs a n (omega arith)
 
-pub nothing : (ring : Ring) → Gathered ring [] 0
-nothing ring = record { count = refl; each = λ j near. absurd (omega arith) }
-
 pub one_more : (ring : Ring) (readers : List (Option EndedReader)) (n : ℕ) (e : EndedReader) →
     Gathered ring readers n → EndedFrom ring e → (ended_knows e).number ≡ n →
     Gathered ring (readers ++ Some e ∷ []) (n + 1)

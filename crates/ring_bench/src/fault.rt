@@ -17,7 +17,7 @@ pub enum BenchFault {
 }
 
 impl BenchFault {
-    /// The program's status.
+    /// The exit status.
     pub fn status(self) -> u8 {
         match self {
             BenchFault::Shape(_) => 2,

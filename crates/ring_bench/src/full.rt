@@ -1,13 +1,13 @@
-//! Whether a block is full of one byte, 32 bytes at a time.
+//! Whether a block consists of one byte. 32 bytes are compared at a time.
 ghost use Rattle.std.specs.Prelude.{◌≡◌, ℕ, ◌+◌, ◌*◌, ◌<◌, ◌≤◌, true, length, slice_index};
 ghost use Rattle.ring_bench.specs.Full.{AreZero, IsFullTo};
 
 use std::simd::prelude::*;
 
-/// How many bytes are compared at once.
+/// The number of bytes that are compared at a time.
 const LANES: usize = 32;
 
-// A lane is 0 only where its byte is this one.
+// Lanes of which one is 0 only if its byte is `byte`.
 #[inline(always)]
 fn others_at(block: &[u8], byte: u8, at: usize) -> u8x32
     requires { at + LANES ≤ length block.now }
@@ -20,7 +20,7 @@ fn others_at(block: &[u8], byte: u8, at: usize) -> u8x32
         .select(u8x32::splat(0), u8x32::splat(255))
 }
 
-// The greater of each two lanes.
+// The greater one of each two lanes.
 #[inline(always)]
 fn greater(a: u8x32, b: u8x32) -> u8x32
     requires first { length a ≡ 32 }
@@ -44,7 +44,8 @@ fn are_zero(lanes: u8x32) -> bool
     most == 0
 }
 
-// Whether each byte of so many steps is this one. It looks at all of them, so that no step waits for the one before it.
+// Whether each byte of the first `steps` steps is `byte`. All of them are compared, so that no step waits for the one
+// before it.
 fn is_full_in_steps(block: &[u8], byte: u8, steps: usize) -> bool
     requires { steps * LANES ≤ length block.now }
     ensures { result ≡ true → IsFullTo block.now byte (steps * LANES) }
@@ -56,7 +57,7 @@ fn is_full_in_steps(block: &[u8], byte: u8, steps: usize) -> bool
     are_zero(others)
 }
 
-/// Whether each byte of the block is this one.
+/// Whether each byte of the block is `byte`.
 pub fn is_full_of(block: &[u8], byte: u8) -> bool
     ensures { result ≡ true → IsFullTo block.now byte (length block.now) }
 {

@@ -1,9 +1,10 @@
-//! Moves blocks through a ring, from one writer to several readers, each in a thread of its own. Each block is written
-//! from its number, and every byte that is read is compared.
+//! Moves blocks through a ring, from one writer to several readers, each in a thread of its own. Each block is filled
+//! with a byte that follows from its number, and every byte that is read is compared.
 //!
-//! With no words it moves a few blocks in each of nine ways, and then some to readers that detach, attach and retire.
-//! With the words SIZE READERS BLOCKS it moves blocks in that way, and prints how long it took and how many blocks and
-//! bytes each reader got in a second. Other words are refused, with status 2.
+//! Without arguments, it moves a few blocks with each of nine sizes and numbers of readers, and then some to readers
+//! that detach, attach and retire. With the arguments SIZE READERS BLOCKS, it moves BLOCKS blocks of SIZE bytes to
+//! READERS readers, and prints the time that this took, and the blocks and bytes per second of each reader. Other
+//! arguments are refused with status 2.
 #![tactic(auto)]
 
 mod crew;
@@ -24,16 +25,16 @@ const SIZES: [u32; 3] = [64, 4096, 524_288];
 
 const READERS: [u32; 3] = [1, 4, 8];
 
-/// How many blocks are moved where no words say so.
+/// The number of blocks that are moved without arguments.
 const FEW: u64 = 40;
 
-/// How many blocks the soak moves.
+/// The number of blocks that the soak moves.
 const SOAKED: u64 = 3000;
 
-/// Words that are not the three numbers.
+/// The exit status if the arguments are not three numbers.
 const FAULTY_WORDS: u8 = 2;
 
-/// One way to move blocks.
+/// The size of the blocks, the number of readers, and the number of blocks to move.
 #[derive(Clone, Copy)]
 struct Way {
     size: u32,
@@ -42,7 +43,7 @@ struct Way {
 }
 
 impl Way {
-    /// Eight buffers, for as many blocks as a ring may carry.
+    /// The shape of the ring: eight buffers, and the largest number of blocks that a ring may carry.
     fn shape(self) -> RingShape {
         RingShape {
             buffers: 8,
@@ -53,7 +54,7 @@ impl Way {
     }
 }
 
-// Prints what was moved in one way.
+// Moves blocks, and prints how many each reader got.
 fn show<R: Threads + Sync + AllocGlobal + Print>(rt: &R, way: Way) -> io::Result<()> {
     let Way { size, readers, .. } = way;
     match move_blocks(rt, way.shape(), way.blocks) {
@@ -72,7 +73,7 @@ fn show_rate<R: Print>(rt: &R, way: Way, moved: u64, micros: u128) -> io::Result
     println!(rt; "{rate} blocks and {bytes} bytes in a second")
 }
 
-// Moves blocks in one way, and prints how fast, or why not. It answers the status.
+// Moves blocks, and prints how fast, or why it failed. Returns the exit status.
 fn measure<R: Threads + Sync + AllocGlobal + Print + Clock>(rt: &R, way: Way) -> io::Result<u8> {
     let start = Instant::now(rt)?;
     match move_blocks(rt, way.shape(), way.blocks) {
@@ -87,7 +88,7 @@ fn measure<R: Threads + Sync + AllocGlobal + Print + Clock>(rt: &R, way: Way) ->
     }
 }
 
-// Prints what came of readers that detach, attach and retire.
+// Runs the soak, and prints how many blocks each reader got.
 fn show_soak<R: Threads + Sync + AllocGlobal + Print>(rt: &R) -> io::Result<()> {
     match soak(rt, SOAKED) {
         Ok(got) => {
@@ -99,7 +100,7 @@ fn show_soak<R: Threads + Sync + AllocGlobal + Print>(rt: &R) -> io::Result<()> 
     }
 }
 
-// The few blocks in each of the nine ways, and the soak.
+// Moves a few blocks with each size and number of readers, and runs the soak.
 fn show_all<R: Threads + Sync + AllocGlobal + Print>(rt: &R) -> io::Result<()> {
     for size in SIZES {
         for readers in READERS {
@@ -116,7 +117,7 @@ fn show_all<R: Threads + Sync + AllocGlobal + Print>(rt: &R) -> io::Result<()> {
     show_soak(rt)
 }
 
-// The three numbers of the words, if there are three.
+// The three numbers of the arguments, or `None` if the arguments are anything else.
 fn way_of(words: &[String]) -> Option<Way> {
     let [size, readers, blocks] = words else {
         return None;
@@ -128,7 +129,7 @@ fn way_of(words: &[String]) -> Option<Way> {
     })
 }
 
-// Answers the words, and says the program's status.
+// Does what the arguments ask for, and returns the exit status.
 fn answer<R: Threads + Sync + AllocGlobal + Print + Clock>(
     rt: &R,
     words: &[String],

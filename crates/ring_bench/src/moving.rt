@@ -1,4 +1,4 @@
-//! Blocks that are moved through a ring, from its opening to its end.
+//! Moving blocks through a ring, from its opening to its end.
 ghost use Rattle.std.specs.Prelude.{◌≡◌, All, IsSomeAnd, IfOk};
 ghost use Rattle.ring_ends.specs.Passes.{ring_shape, ended_knows, WritesTo, ReadsFrom, EndedFrom};
 ghost use Rattle.ring_ends.specs.Ended.{AreInOrder, finished_shape};
@@ -13,7 +13,7 @@ use ring_words::MOST_READERS;
 use std::alloc::{AllocError, Global};
 use std::thread::Threads;
 
-// The job of a reader, with space of its own. Reader i goes on as the manner i modulo 3.
+// The job of a reader, with a space of its own. Reader `i` has the manner `i % 3`.
 fn open_job(
     alloc: Global,
     ring: &Ring,
@@ -54,7 +54,7 @@ fn open_jobs(
     Ok(jobs)
 }
 
-// The reader with this number, which is the last that is left, and read the right bytes.
+// Takes the last reader from the list. It must have this number, and must have read the right bytes.
 fn take_reader(ring: &Ring, done: &mut Vec<Done>, number: u32) -> Result<EndedReader, BenchFault>
     requires { All (IsBack ring.now) done.old.items }
     ensures rest { All (IsBack ring.now) done.new.items }
@@ -89,7 +89,7 @@ fn gather(
     Ok(readers)
 }
 
-// Ends a ring whose readers stand at the places of their numbers.
+// Ends a ring whose readers are at the places of their numbers.
 fn end(
     ring: Ring,
     writer: WriterPass,
@@ -103,7 +103,7 @@ fn end(
     ring.finish(writer, readers)
 }
 
-// Moves so many blocks, and ends the ring.
+// Moves `blocks` blocks, and ends the ring.
 fn run<R: Threads + Sync + AllocGlobal>(
     rt: &R,
     shape: RingShape,
@@ -124,7 +124,7 @@ fn run<R: Threads + Sync + AllocGlobal>(
     Ok(end(ring, writer, gathered))
 }
 
-/// Moves so many blocks, and answers how many the slowest reader got.
+/// Moves `blocks` blocks, and returns how many the slowest reader got.
 pub fn move_blocks<R: Threads + Sync + AllocGlobal>(
     rt: &R,
     shape: RingShape,
@@ -138,8 +138,8 @@ pub fn move_blocks<R: Threads + Sync + AllocGlobal>(
     Ok(least)
 }
 
-/// Moves so many blocks to a reader that stays, one that detaches and attaches all the time, and one that retires, and
-/// answers how many each got.
+/// Moves `blocks` blocks to three readers: one that stays, one that detaches and attaches all the time, and one that
+/// retires. Returns how many each of them got.
 pub fn soak<R: Threads + Sync + AllocGlobal>(rt: &R, blocks: u64) -> Result<[u64; 3], BenchFault> {
     let shape = RingShape {
         buffers: 4,

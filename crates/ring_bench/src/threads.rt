@@ -1,5 +1,5 @@
-//! The writer and the readers of a ring, each in a thread of its own. What a thread counts is on its own stack, and so
-//! on cache lines of its own.
+//! The writer and the readers of a ring, each in a thread of its own. The counters of a thread are on its own stack, so
+//! they are on cache lines of their own.
 ghost use Rattle.std.specs.Prelude.{◌≡◌, ◌≤◌, ◌%◌, All, IfOk, length, vec_len};
 ghost use Rattle.std.specs.Thread.{IsSync};
 ghost use Rattle.ring_ends.specs.Passes.{ring_shape, reader_knows, WritesTo, ReadsFrom};
@@ -12,20 +12,21 @@ use std::alloc::AllocError;
 use std::thread;
 use std::thread::{Threads, join, map_vec};
 
-/// So often a thread tries before it gives up.
+/// The number of tries after which a thread gives up.
 const TRIES: u64 = 1 << 32;
 
-/// After so many blocks a reader leaves that is to leave.
+/// The number of blocks after which a reader with the manner `Leaves` retires.
 const BEFORE_LEAVING: u64 = 10;
 
-// The byte of which a block is full. A ring of fewer than 251 buffers holds no two blocks of the same byte.
+// The byte that block `number` is filled with. If a ring has fewer than 251 buffers, no two blocks in it have the same
+// byte.
 fn byte_of(number: u64) -> u8
     ensures { result ≡ number % 251 }
 {
     (number % 251) as u8
 }
 
-/// Seals blocks, each full of the byte of its number, until so many are sealed.
+/// Seals blocks until `blocks` are sealed. Each is filled with the byte of its number.
 fn write_all(ring: &Ring, mut pass: WriterPass, mut space: Vec<u8>, blocks: u64) -> WriterPass
     requires ring { WritesTo ring.now pass }
     requires space { (ring_shape ring.now).size ≤ vec_len space }
@@ -50,7 +51,7 @@ fn write_all(ring: &Ring, mut pass: WriterPass, mut space: Vec<u8>, blocks: u64)
     pass
 }
 
-// Whether the next block is the right one, if there is one.
+// Whether the next block is the right one, or `None` if there is none yet.
 fn read_one(ring: &Ring, pass: &mut ReaderPass, into: &mut [u8]) -> Option<bool>
     requires ring { ReadsFrom ring.now pass.old }
     requires room { (ring_shape ring.now).size ≤ length into.old }
@@ -67,7 +68,8 @@ fn read_one(ring: &Ring, pass: &mut ReaderPass, into: &mut [u8]) -> Option<bool>
     Some(right && used <= into.len() && is_full_of(&into[..used], byte_of(wanted)))
 }
 
-// Reads until so many blocks are cleared, and says whether each was the right one. It may detach and attach each time.
+// Reads until `blocks` blocks are cleared, and tells whether each was the right one. If `returns`, it detaches and
+// attaches before each read.
 fn read_blocks(
     ring: &Ring,
     mut pass: ReaderPass,
@@ -96,7 +98,7 @@ fn read_blocks(
     (pass, right)
 }
 
-// Does what a reader is to do, and ends it.
+// Does the job of a reader, and ends the reader.
 fn read_all(ring: &Ring, job: Job) -> Done
     requires { IsAt ring.now job }
     ensures { IsBack ring.now result }
@@ -120,7 +122,7 @@ fn read_all(ring: &Ring, job: Job) -> Done
     Done { reader, right }
 }
 
-// Each reader in a thread of its own. They end in the order of the jobs.
+// Runs each reader in a thread of its own. The result is in the order of the jobs.
 fn read_in_threads<R: Threads + Sync>(
     rt: &R,
     ring: &Ring,
@@ -139,7 +141,7 @@ fn read_in_threads<R: Threads + Sync>(
     )
 }
 
-/// The writer and the readers, each in a thread of its own, until all of them end.
+/// Runs the writer and the readers, each in a thread of its own, until all of them end.
 pub fn run_threads<R: Threads + Sync>(
     rt: &R,
     ring: &Ring,

@@ -30,13 +30,14 @@ pub enum Mark {
     Cut,
 }
 
-/// What contracts see in a block. No value of it is made.
+/// A block as contracts see it. No value of this type is made.
 pub struct Entry {
     pub mark: Mark,
     pub bytes: LinkedList<u8>,
 }
 
-/// What takes the bytes of a block where they lie: the ring copies none. It may have parts, of which one takes a block.
+/// Takes the bytes of a block from the place where they lie, so that the ring copies none. It may have several parts,
+/// and one part takes a block.
 pub trait BlockTaker {
     ghost use Rattle.ring_blocks.specs.declared.Entry.{Entry};
 
@@ -46,13 +47,13 @@ pub trait BlockTaker {
     // what it is once a part took a block
     ghost took: { Self → ℕ → Entry → Self → Type 0 };
 
-    /// Takes the bytes of a block, and its mark, for a part.
+    /// Takes the bytes of a block, and its mark, for part `part`.
     fn take(&mut self, part: usize, bytes: &[u8], mark: Mark)
         requires { can_take self.old part (record { mark = mark; bytes = bytes.now }) }
         ensures { took self.old part (record { mark = mark; bytes = bytes.now }) self.new };
 }
 
-/// A space for bytes, taken once, which is filled again and again.
+/// A space for the bytes of a block. It is allocated once, and filled again and again.
 #[derive(Drop)]
 pub struct Block {
     buffer: Vec<u8>,
@@ -77,7 +78,7 @@ impl Block {
         })
     }
 
-    /// The block then holds these bytes alone, with this mark.
+    /// Replaces what the block holds by a copy of `bytes`, with this mark.
     pub fn fill(&mut self, bytes: &[u8], mark: Mark)
         requires { length bytes.now ≤ room_of self.old }
         ensures filled { entry_of self.new ≡ record { mark = mark; bytes = bytes.now } }
@@ -88,8 +89,8 @@ impl Block {
         self.mark = mark;
     }
 
-    /// The block then holds the first `used` bytes of the space, with this mark. No byte is copied: the block's space
-    /// and this one change places.
+    /// Replaces what the block holds by the first `used` bytes of `space`, with this mark. No byte is copied: the block
+    /// and the caller swap their spaces.
     pub fn exchange(&mut self, space: &mut Vec<u8>, used: usize, mark: Mark)
         requires room { length space.old.items ≡ room_of self.old }
         requires within { used ≤ room_of self.old }
@@ -103,7 +104,7 @@ impl Block {
         self.mark = mark;
     }
 
-    /// Copies the bytes that it holds to the front of `into`, and answers how many there are.
+    /// Copies the bytes of the block to the front of `into`, and returns their number.
     pub fn copy_to(&self, into: &mut [u8]) -> u32
         requires { length (entry_of self.now).bytes ≤ length into.old }
         ensures count { result ≡ length (entry_of self.now).bytes }
@@ -113,7 +114,7 @@ impl Block {
         self.used
     }
 
-    /// Lends its bytes, and its mark, to a part of a taker, and answers how many bytes there are.
+    /// Lends the bytes of the block, and its mark, to `taker` for its part `part`, and returns the number of bytes.
     pub fn lend<T: BlockTaker>(&self, taker: &mut T, part: usize) -> u32
         requires { T.can_take taker.old part (entry_of self.now) }
         ensures count { result ≡ length (entry_of self.now).bytes }
@@ -124,14 +125,14 @@ impl Block {
         self.used
     }
 
-    /// How many bytes it holds.
+    /// The number of bytes that the block holds.
     pub fn used(&self) -> u32
         ensures { result ≡ length (entry_of self.now).bytes }
     {
         self.used
     }
 
-    /// The mark that it was filled with.
+    /// The mark that the block was filled with.
     pub fn mark(&self) -> Mark
         ensures { result ≡ (entry_of self.now).mark }
     {
@@ -139,7 +140,7 @@ impl Block {
     }
 }
 
-// Overwrites the front.
+// Copies `bytes` to the front of `into`.
 fn put_front(into: &mut [u8], bytes: &[u8])
     requires { length bytes.now ≤ length into.old }
     ensures { into.new ≡ bytes.now ++ drop (length bytes.now) into.old }

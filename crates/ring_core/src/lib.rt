@@ -1,4 +1,4 @@
-//! The ring between one writer and its readers, as a machine on one thread: events in, answers out.
+//! The ring between one writer and its readers, as a machine on one thread: it takes events and gives answers.
 #![tactic(auto)]
 
 ghost use Rattle.std.specs.Prelude.{◌≡◌, ℕ, ◌+◌, ◌^◌, ◌<◌, ◌≤◌, ◌↔◌, length, map, slice_get, option_map};
@@ -12,63 +12,77 @@ use std::alloc::{AllocError, Global};
 use std::marker::Model;
 use thiserror::Error;
 
-/// There was not enough memory.
+/// There was no memory.
 #[derive(Debug, Clone, Copy, PartialEq, Eq, Error)]
 #[error("no memory")]
 pub struct Memory;
 
-/// How many buffers and readers a ring has, and how many blocks it carries at most. `Core::open` takes 2 to 64 buffers,
-/// 1 to 8 readers and 1 to 2^20 blocks.
+/// The shape of a ring. `Core::open` takes 2 to 64 buffers, 1 to 8 readers and 1 to 2^20 blocks.
 #[derive(Debug, Clone, Copy, PartialEq, Eq)]
 pub struct Shape {
+    /// The number of buffers.
     pub buffers: u32,
+    /// The number of readers.
     pub readers: u32,
+    /// The largest number of blocks that are sealed over the life of the ring.
     pub max_blocks: u64,
 }
 
-/// What is asked of the ring. The number of `Seal` is the block's label; every other one is a reader's, counted from 0.
+/// What happens at a ring. A reader is given by its number, counted from 0.
 #[derive(Debug, Clone, Copy, PartialEq, Eq)]
 pub enum Event {
-    /// The writer looks at a reader's count.
+    /// The writer looks at how many blocks this reader has cleared.
     Look(u32),
-    /// The writer takes the buffer of the next block.
+    /// The writer takes the buffer for the next block.
     WriterTake,
-    /// The writer seals the block that it holds.
+    /// The writer seals the block that it holds, with this label.
     Seal(u64),
-    /// A reader takes the buffer of the block that comes after those it cleared.
+    /// A reader takes the buffer of its next block: the one after those that it cleared.
     ReaderTake(u32),
-    /// A reader gives back the buffer that it holds, and has read the block.
+    /// A reader gives back the buffer that it holds: it has read the block.
     Give(u32),
-    /// A reader counts the block that it has read as cleared.
+    /// A reader clears the block that it has read.
     Clear(u32),
-    /// The writer no longer waits for a reader.
+    /// A reader is retired: the writer no longer waits for it.
     Retire(u32),
-    /// A reader reads nothing for now. The writer waits for it.
+    /// A reader is detached: it reads nothing for now, and the writer waits for it.
     Detach(u32),
-    /// A detached reader goes on with the first block that it has not cleared.
+    /// A detached reader is attached again. It goes on with the first block that it has not cleared.
     Attach(u32),
 }
 
-/// What the ring answers to an event. Blocks (`number`) count from 0 in the order in which they are sealed. `Full`: the
-/// reader has cleared so many blocks, and not the one in the buffer that is wanted next; `Room`: it needs none there.
-/// `Spent`: all blocks that the ring may carry are sealed. `Empty`: the reader's next block is not sealed yet; `Busy`:
-/// another reader holds it. `Refused`: the event is not allowed now, or there is no such reader, and nothing changed.
+/// What the ring answers to an event. Blocks are numbered from 0 in the order in which they are sealed.
 #[derive(Debug, Clone, Copy, PartialEq, Eq)]
 pub enum Answer {
+    /// The reader has cleared `cleared` blocks, but not the one in the buffer that is wanted next.
     Full { reader: u32, cleared: u64 },
+    /// The reader has cleared `cleared` blocks, and needs none in the buffer that is wanted next.
     Room { reader: u32, cleared: u64 },
+    /// The reader is retired, so it needs no buffer.
     RoomRetired { reader: u32 },
+    /// The writer holds the buffer for block `number`.
     Taken { number: u64 },
+    /// All `limit` blocks that the ring may carry are sealed.
     Spent { limit: u64 },
+    /// Block `number` is sealed.
     Sealed { number: u64 },
+    /// The reader holds block `number`, which has this label.
     Got { number: u64, label: u64 },
+    /// The reader's next block, `number`, is not sealed yet.
     Empty { number: u64 },
+    /// The reader's next block, `number`, is held by another reader, `reader`.
     Busy { number: u64, reader: u32 },
+    /// The reader has given its buffer back.
     Given,
+    /// The reader has cleared `count` blocks by now.
     Cleared { count: u64 },
+    /// The reader is retired.
     Retired,
+    /// The reader is detached.
     Detached,
+    /// The reader is attached, and its next block is `number`.
     Attached { number: u64 },
+    /// The event isn't allowed now, or there is no such reader. Nothing changed.
     Refused,
 }
 
@@ -102,7 +116,7 @@ impl Reader {
         matches!(self.phase, Phase::Out)
     }
 
-    /// Neither holding a block, nor detached, nor retired.
+    /// Whether the reader neither holds a block nor is detached or retired.
     fn is_idle(self) -> bool
         ensures { IsTrue result ↔ IsIdle (reader_of self) }
     {
@@ -133,7 +147,7 @@ impl Model for Core {
 }
 
 impl Core {
-    /// Nothing sealed, each reader ready. All memory that the ring ever needs is taken here.
+    /// Opens a ring with no block sealed and each reader ready. It takes all memory that the ring ever needs.
     pub fn open(alloc: Global, shape: Shape) -> Result<Core, Memory>
         requires buffers { (2 ≤ shape.buffers) × (shape.buffers ≤ 64) }
         requires readers { (1 ≤ shape.readers) × (shape.readers ≤ 8) }
@@ -154,14 +168,14 @@ impl Core {
         })
     }
 
-    /// One event, answered at once.
+    /// Makes one event happen, and returns its answer at once.
     pub fn apply(&mut self, event: Event) -> Answer
-        // By the table, exactly, and there is no other way.
+        // The step is one of the table, and the table has no other.
         ensures steps { Steps self.old (event_of event) (answer_of result) self.new }
         ensures only { IsOnly self.old (event_of event) (answer_of result) self.new }
         ensures ring { IsSoundCore self.new }
 
-        // What that comes to.
+        // What the table means for the ring.
         ensures next { GetsNext self.old.machine (event_of event) (answer_of result) }
         ensures full { FullByReader self.old.shape.buffers self.old.machine (answer_of result) }
         ensures refused { result ≡ Answer.Refused → self.new ≡ self.old }
@@ -189,7 +203,7 @@ impl Core {
         }
     }
 
-    /// Reader `i`, where there is one.
+    /// Reader `i`, if there is one.
     fn reader(&self, i: u32) -> Option<Reader>
         ensures at { slice_get self.now.machine.readers i ≡ option_map reader_of result }
         ensures ring { IsSoundCore self.now }
@@ -221,7 +235,7 @@ impl Core {
         self.low[i as usize] = count;
     }
 
-    /// Whether a reader with this count has not cleared the block in the buffer that is wanted next.
+    /// Whether a reader that cleared `count` blocks has not cleared the one in the buffer that is wanted next.
     fn is_behind(&self, count: u64) -> bool
         ensures { IsTrue result ↔ (count + self.now.shape.buffers ≤ height self.now.machine) }
     {
@@ -302,7 +316,7 @@ impl Core {
         }
     }
 
-    /// The reader that holds the buffer of block `number`.
+    /// The reader that holds the buffer of block `number`, if one does.
     fn holder(&self, number: u64) -> Option<u32>
         ensures held { IfSome result (λ j. Holds self.now.machine j number) }
         ensures free { IfNone result ((j : ℕ) → ¬ Holds self.now.machine j number) }
@@ -450,7 +464,7 @@ impl Core {
     }
 }
 
-/// The events one after another. Their answers are dropped.
+/// Makes events happen one after another, and drops their answers.
 pub fn run(core: &mut Core, events: &[Event])
     ensures runs { RunsTo core.old (map event_of events.now) core.new }
     ensures ring { IsSoundCore core.new }
@@ -462,8 +476,7 @@ pub fn run(core: &mut Core, events: &[Event])
     }
 }
 
-/// A law, which does nothing when it runs: what events leave of a new ring is sound, for labels of
-/// any type.
+/// Law: what any events leave of a new ring is sound, for labels of any type. It does nothing when it runs.
 pub fn reached_is_sound<L>()
     ensures { ReachedIsSound L }
 {}

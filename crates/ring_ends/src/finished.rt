@@ -1,4 +1,4 @@
-//! The end of a ring, when all passes are back.
+//! The end of a ring, once all passes are back.
 ghost use Rattle.std.specs.Prelude.{◌≡◌, ℕ, ◌<◌, ◌≤◌, All, Some, length, slice_index, slice_get};
 ghost use Rattle.ring_blocks.specs.declared.Entry.{Entry};
 ghost use Rattle.ring_words.specs.declared.views.ReaderView.{ReaderView};
@@ -12,7 +12,7 @@ use crate::ring::Ring;
 use arrayvec::ArrayVec;
 use ring_words::{MOST_READERS, WriterSeat};
 
-/// What went through a ring: a clause sees the blocks that were sealed and those that each reader cleared.
+/// What went through a ring: in a clause it has the blocks that were sealed and those that each reader cleared.
 #[derive(Drop)]
 pub struct Finished {
     seat: WriterSeat,
@@ -29,7 +29,7 @@ impl Ring {
     ghost use Rattle.ring_ends.specs.Passes.{ring_shape, writer_knows, ended_knows, WritesTo};
     ghost use Rattle.ring_ends.specs.Ended.{AllReaders, Gives, finished_shape, sealed_at_end, reader_at_end, cleared_at_end};
 
-    /// Ends the ring. The passes are all that it had, the readers in any order.
+    /// Ends the ring. `readers` are all readers that it had, in any order.
     pub fn finish(
         self,
         writer: WriterPass,
@@ -68,14 +68,14 @@ impl Ring {
 impl Finished {
     ghost use Rattle.ring_ends.specs.Ended.{finished_shape, sealed_at_end, cleared_at_end};
 
-    /// How many blocks were sealed.
+    /// The number of blocks that were sealed.
     pub fn sealed(&self) -> u64
         ensures { result ≡ length (sealed_at_end self.now) }
     {
         self.seat.sealed()
     }
 
-    /// How many blocks a reader cleared.
+    /// The number of blocks that reader `reader` cleared.
     pub fn cleared(&self, reader: u32) -> u64
         requires { reader < (finished_shape self.now).readers }
         ensures { result ≡ length (cleared_at_end self.now reader) }

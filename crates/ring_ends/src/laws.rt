@@ -1,7 +1,7 @@
-//! Laws, as calls that do nothing when they run.
+//! Laws, as functions that do nothing when they run.
 ghost use Rattle.ring_ends.specs.Ended.{OrderIsEnough};
 
-/// As many readers of a ring as it has, each at the place of its number, are all its readers.
+/// If a list has as many readers as the ring, each at the place of its number, it has all readers of the ring.
 pub fn order_is_enough()
     ensures { OrderIsEnough }
 {}

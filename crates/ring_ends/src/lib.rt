@@ -1,7 +1,7 @@
-//! The two ends of a ring: one writer hands blocks of bytes on to up to eight readers, each of which gets all of them,
+//! The two ends of a ring: one writer gives blocks of bytes to up to eight readers, and each of them gets all blocks,
 //! in order.
 //!
-//! A block's buffer is written again only after each registered reader cleared the block (PSRDADA manual). No call
+//! A buffer is written again only after each registered reader has cleared the block in it (PSRDADA manual). No call
 //! after `Ring::open` takes memory or waits.
 #![tactic(auto)]
 

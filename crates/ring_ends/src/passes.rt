@@ -1,4 +1,4 @@
-//! The passes with which threads write and read. A pass goes to another thread, or is lent to it.
+//! The passes with which threads write and read. A pass is moved to another thread, or lent to it.
 ghost use Rattle.std.specs.Prelude.{◌≡◌, true, false, IsSome, length, min, option_map, ◌/◌, ◌%◌};
 ghost use Rattle.ring_core.specs.Machine.{greatest};
 ghost use Rattle.ring_words.specs.Seats.{writer_view, reader_view};
@@ -22,7 +22,7 @@ pub struct ReaderPass {
     ghost got: { has_read ≡ true → IsSome (reader_view seat).got },
 }
 
-/// A registered reader that reads nothing for now. The writer waits for it.
+/// A registered reader that reads nothing for now. The writer still waits for it.
 #[derive(Drop)]
 pub struct DetachedReader {
     pub(crate) seat: ReaderSeat,
@@ -37,7 +37,7 @@ pub struct RetiredPass {
     ghost home: { (reader_view seat).out ≡ false },
 }
 
-/// A reader, however it ended.
+/// A reader when its ring ends.
 #[derive(Drop)]
 pub enum EndedReader {
     /// It was still reading.
@@ -51,21 +51,22 @@ pub enum EndedReader {
 impl WriterPass {
     ghost use Rattle.ring_ends.specs.Passes.{writer_knows};
 
-    /// How many blocks were sealed.
+    /// The number of blocks that were sealed.
     pub fn sealed(&self) -> u64
         ensures { result ≡ length (writer_knows self.now).sealed }
     {
         self.seat.sealed()
     }
 
-    /// How often the writer looked at a reader's count. It stays at `u64::MAX`.
+    /// How often the writer looked at a reader's count. It stops at `u64::MAX`.
     pub fn looks(&self) -> u64
         ensures { result ≡ min greatest (writer_knows self.now).looks }
     {
         self.seat.looks()
     }
 
-    /// The reader that the writer looked at last, and the count that it saw: `u64::MAX` where the reader had retired.
+    /// The reader that the writer looked at last, and the count that it saw: `u64::MAX` if the reader had retired.
+    /// `None` before the first look.
     pub fn last_look(&self) -> Option<(u32, u64)>
         ensures { result ≡ (writer_knows self.now).last_look }
     {
@@ -76,29 +77,29 @@ impl WriterPass {
 impl ReaderPass {
     ghost use Rattle.ring_ends.specs.Passes.{reader_knows, is_read, detached_knows, ring_of_reader, ring_of_detached};
 
-    /// The reader's number in its ring, from 0 on.
+    /// The reader's number in its ring, from 0.
     pub fn number(&self) -> u32
         ensures { result ≡ (reader_knows self.now).number }
     {
         self.seat.number()
     }
 
-    /// How many blocks the reader cleared.
+    /// The number of blocks that the reader cleared.
     pub fn cleared(&self) -> u64
         ensures { result ≡ length (reader_knows self.now).cleared }
     {
         self.seat.cleared()
     }
 
-    /// How often the reader tried to take a block. It stays at `u64::MAX`.
+    /// How often the reader tried to take a block. It stops at `u64::MAX`.
     pub fn tries(&self) -> u64
         ensures { result ≡ min greatest (reader_knows self.now).tries }
     {
         self.seat.tries()
     }
 
-    /// What the last try found in its buffer: the number plus 1 of the block there, or 0 where there was none, and who
-    /// had it: 0 for nobody, 15 for the writer, or a reader's number plus 1.
+    /// What the last try found in the buffer: the number of its block plus 1, or 0 if there was none; and the holder: 0
+    /// for nobody, 15 for the writer, a reader's number plus 1 for that reader. `None` before the first try.
     pub fn last_try(&self) -> Option<(u64, u32)>
         ensures { result
             ≡ option_map (λ word. (word / 16, word % 16)) (reader_knows self.now).last_try }
@@ -106,14 +107,14 @@ impl ReaderPass {
         self.seat.last_try()
     }
 
-    /// Whether the reader has read the block that comes after those it cleared.
+    /// Whether the reader has read its next block: the one after those that it cleared.
     pub fn has_read(&self) -> bool
         ensures { result ≡ is_read self.now }
     {
         self.has_read
     }
 
-    /// Stops reading for now. What was read and not cleared is forgotten, so that it is read again later.
+    /// Stops reading for now. If a block was read but not cleared, it is read again later.
     pub fn detach(self) -> DetachedReader
         ensures same { detached_knows result ≡ reader_knows self }
         ensures ring { ring_of_detached result ≡ ring_of_reader self }
@@ -126,21 +127,21 @@ impl ReaderPass {
 impl DetachedReader {
     ghost use Rattle.ring_ends.specs.Passes.{reader_knows, is_read, detached_knows, ring_of_reader, ring_of_detached};
 
-    /// The reader's number in its ring, from 0 on.
+    /// The reader's number in its ring, from 0.
     pub fn number(&self) -> u32
         ensures { result ≡ (detached_knows self.now).number }
     {
         self.seat.number()
     }
 
-    /// How many blocks the reader cleared.
+    /// The number of blocks that the reader cleared.
     pub fn cleared(&self) -> u64
         ensures { result ≡ length (detached_knows self.now).cleared }
     {
         self.seat.cleared()
     }
 
-    /// Goes on reading with the first block that was not cleared.
+    /// Reads again, from the first block that was not cleared.
     pub fn attach(self) -> ReaderPass
         ensures same { reader_knows result ≡ detached_knows self }
         ensures ring { ring_of_reader result ≡ ring_of_detached self }
@@ -157,14 +158,14 @@ impl DetachedReader {
 impl RetiredPass {
     ghost use Rattle.ring_ends.specs.Passes.{retired_knows};
 
-    /// The reader's number in its ring, from 0 on.
+    /// The reader's number in its ring, from 0.
     pub fn number(&self) -> u32
         ensures { result ≡ (retired_knows self.now).number }
     {
         self.seat.number()
     }
 
-    /// How many blocks the reader cleared.
+    /// The number of blocks that the reader cleared.
     pub fn cleared(&self) -> u64
         ensures { result ≡ length (retired_knows self.now).cleared }
     {
@@ -175,7 +176,7 @@ impl RetiredPass {
 impl EndedReader {
     ghost use Rattle.ring_ends.specs.Passes.{ended_seat, ended_knows};
 
-    /// The reader's number in its ring, from 0 on.
+    /// The reader's number in its ring, from 0.
     pub fn number(&self) -> u32
         ensures { result ≡ (ended_knows self.now).number }
     {
@@ -186,7 +187,7 @@ impl EndedReader {
         }
     }
 
-    /// How many blocks the reader cleared.
+    /// The number of blocks that the reader cleared.
     pub fn cleared(&self) -> u64
         ensures { result ≡ length (ended_knows self.now).cleared }
     {

@@ -1,4 +1,4 @@
-//! The ring that its threads share by reference.
+//! The ring, which threads share by reference.
 ghost use Rattle.std.specs.Prelude.{◌≡◌, All, IsSomeAnd, ◌+◌, ◌<◌, ◌≤◌, true, false, length, take, IfOk, MatchOption, MatchResult, OnOk, OnErr, EachIndex, IsTrue, ◌↔◌, ◌/◌, ◌%◌, ◌-◌, nat_le, if◌then◌else◌};
 
 use crate::answers::{ReadStop, Taken, WriteStop};
@@ -9,7 +9,7 @@ use ring_core::Memory;
 use ring_words::{MOST_READERS, RingShape, Words};
 use std::alloc::Global;
 
-/// A ring of blocks.
+/// A ring of blocks, from one writer to its readers.
 #[derive(Drop)]
 pub struct Ring {
     pub(crate) words: Words,
@@ -22,7 +22,7 @@ impl Ring {
     ghost use Rattle.ring_ends.specs.Passes.{ring_shape, writer_knows, reader_knows, is_read, retired_knows, WritesTo, ReadsFrom, RetiredFrom, HasFreshPass};
     ghost use Rattle.ring_ends.specs.Answers.{FitsMark, CanTakeNext, IsWritten, IsWriteStop, IsRead, IsLent, IsReadStop, SawAllPast, IsFull};
 
-    /// Opens a ring. The pass at place i is that of reader i.
+    /// Opens a ring. The pass at place `i` is that of reader `i`.
     pub fn open(
         alloc: Global,
         shape: RingShape,
@@ -51,7 +51,7 @@ impl Ring {
         Ok((ring, WriterPass { seat }, readers))
     }
 
-    /// The measures that it was opened with.
+    /// The shape that the ring was opened with.
     pub fn shape(&self) -> RingShape
         ensures shape { result ≡ ring_shape self.now }
         ensures ring { IsRing result }
@@ -59,8 +59,8 @@ impl Ring {
         self.words.shape()
     }
 
-    /// Fills the next block, seals it, and answers its number. The bytes fill a block that is marked More, are fewer
-    /// where it is marked End, and none where it is marked Cut. An error seals nothing.
+    /// Fills the next block, seals it, and returns its number. With the mark `More` the bytes fill a block, with `End`
+    /// they are fewer, and with `Cut` there are none. An error seals nothing.
     pub fn write(&self, pass: &mut WriterPass, bytes: &[u8], mark: Mark) -> Result<u64, WriteStop>
         requires ring { WritesTo self.now pass.old }
         requires fits { FitsMark (ring_shape self.now).size mark bytes.now }
@@ -79,8 +79,9 @@ impl Ring {
         }
     }
 
-    /// Seals the first `used` bytes of the space as the next block, as `write` does, and answers its number. No byte is
-    /// copied: the space, which has the size of a block, and that of the block change places. An error changes neither.
+    /// Seals the first `used` bytes of `space` as the next block, with this mark, and returns its number. Marks and
+    /// errors are those of `write`. No byte is copied: the block and the caller swap their spaces, which have one size.
+    /// An error changes neither of them.
     pub fn write_space(
         &self,
         pass: &mut WriterPass,
@@ -109,8 +110,8 @@ impl Ring {
         }
     }
 
-    /// Whether each reader has cleared the block in the buffer of the next at this moment. The pass stays as it is, and
-    /// no look is counted. It is a hint: no clause speaks of the answer.
+    /// Whether each reader has cleared the block in the buffer that the next block needs, at this moment. The pass
+    /// doesn't change, and no look is counted. The answer is a hint: no clause speaks of it.
     pub fn has_room(&self, pass: &WriterPass) -> bool {
         let shape = self.words.shape();
         for number in 0..shape.readers {
@@ -121,8 +122,8 @@ impl Ring {
         true
     }
 
-    /// Copies the block that comes after those that the reader cleared to the front of `into`. Until it is cleared, the
-    /// same block is read again.
+    /// Copies the reader's next block, the one after those that it cleared, to the front of `into`. Until the block is
+    /// cleared, each read copies it again.
     pub fn read(&self, pass: &mut ReaderPass, into: &mut [u8]) -> Result<Taken, ReadStop>
         requires ring { ReadsFrom self.now pass.old }
         requires room { (ring_shape self.now).size ≤ length into.old }
@@ -147,9 +148,9 @@ impl Ring {
         }
     }
 
-    /// Lends the block that comes after those that the reader cleared to a part of a taker, which takes its bytes where
-    /// they lie. Meanwhile the reader holds the buffer, and others that read the block find it busy. Until it is
-    /// cleared, the same block is lent again.
+    /// Lends the reader's next block to `taker`, for its part `part`, which takes the bytes from the place where they
+    /// lie. Meanwhile the reader holds the buffer, and other readers find the block busy. Until the block is cleared,
+    /// each call lends it again.
     pub fn read_to<T: BlockTaker>(
         &self,
         pass: &mut ReaderPass,
@@ -180,15 +181,15 @@ impl Ring {
         }
     }
 
-    /// Whether a read would find its block at this moment. The pass stays as it is, and no try is counted. It is a
-    /// hint: no clause speaks of the answer.
+    /// Whether a read would find its block at this moment. The pass doesn't change, and no try is counted. The answer
+    /// is a hint: no clause speaks of it.
     pub fn has_next(&self, pass: &ReaderPass) -> bool
         requires { ReadsFrom self.now pass.now }
     {
         self.words.has_next(&pass.seat)
     }
 
-    /// Counts the block that was read as cleared, and answers the new count.
+    /// Counts the block that was read as cleared, and returns the new count.
     pub fn clear(&self, pass: &mut ReaderPass) -> u64
         requires ring { ReadsFrom self.now pass.old }
         requires read { is_read pass.old ≡ true }
@@ -202,7 +203,7 @@ impl Ring {
         self.words.clear(&mut pass.seat)
     }
 
-    /// The writer no longer waits for this reader.
+    /// Retires the reader: the writer no longer waits for it.
     pub fn retire(&self, pass: ReaderPass) -> RetiredPass
         requires { ReadsFrom self.now pass }
         ensures ring { RetiredFrom self.now result }
@@ -216,7 +217,7 @@ impl Ring {
         RetiredPass { seat }
     }
 
-    // Whether the next block can be sealed, or why not.
+    // Looks whether the next block can be sealed. The error says why not.
     fn find_room(&self, pass: &mut WriterPass) -> Result<(), WriteStop>
         requires { WritesTo self.now pass.old }
         ensures ring { WritesTo self.now pass.new }
@@ -235,8 +236,8 @@ impl Ring {
         }
     }
 
-    // Looks at each reader in turn, up to the first that has not cleared the block in the buffer of the next, with the
-    // count that it saw.
+    // Looks at each reader in turn, up to the first that has not cleared the block in the buffer that the next block
+    // needs. Returns that reader and the count that was seen.
     fn first_late(&self, pass: &mut WriterPass) -> Option<(u32, u64)>
         requires ring { WritesTo self.now pass.old }
         requires within { length (writer_knows pass.old).sealed < (ring_shape self.now).max_blocks }
@@ -257,7 +258,7 @@ impl Ring {
     }
 }
 
-// Whether a reader with this count may still need the block that the next one overwrites.
+// Whether a reader that cleared `cleared` blocks may still need the one that the next block overwrites.
 fn is_late(cleared: u64, sealed: u64, buffers: u32) -> bool
     ensures { IsTrue result ↔ (cleared + buffers ≤ sealed) }
 {
@@ -267,7 +268,7 @@ fn is_late(cleared: u64, sealed: u64, buffers: u32) -> bool
     }
 }
 
-// What the word says that was found in the buffer of this block.
+// Why a read of block `block` took nothing, from the word that was found in the buffer.
 fn stop_of(block: u64, word: u64) -> ReadStop
     requires { block < word / 16 → 0 < word % 16 }
     ensures { result ≡ (if nat_le (word / 16) block then ReadStop.Empty block (word / 16)

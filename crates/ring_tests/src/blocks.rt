@@ -1,4 +1,4 @@
-// A block is filled, by a copy or by an exchange, and copied.
+// Tests of a block, filled by a copy and by an exchange.
 use ring_blocks::{Block, Mark};
 use std::test::Fail;
 

@@ -1,4 +1,4 @@
-// Measures, turns on one thread, and threads.
+// Tests of the two ends of a ring: its shape, turns on one thread, and threads.
 ghost use Rattle.std.specs.Prelude.{◌≡◌};
 
 use ring_ends::{RingShape, ShapeFault};
@@ -8,7 +8,7 @@ mod duo;
 mod pair;
 mod threads;
 
-// The measures of a ring of blocks of 8 bytes.
+// The shape of a ring with blocks of 8 bytes.
 fn shape(buffers: u32, readers: u32, max_blocks: u64) -> RingShape
     ensures { result
         ≡ record { buffers = buffers; size = 8; readers = readers; max_blocks = max_blocks } }

@@ -1,9 +1,10 @@
-// Traces with their answers, and the faults of what a trace is read from and written to.
+// Traces with their answers, and faults of the file and of the output.
 use psr_base::{MemInputs, MemSink, Memory};
 use ring_trace::run_trace;
 use std::alloc::Global;
 
-// Traces, their statuses and the answers that were written, or `none`. A `;` ends a line.
+// Each line: a trace, the exit status, and the answers that were written, or `none`. A `;` ends a line of a trace or of
+// answers.
 const TRACES: &str = "
  | 3 | none
 ; | 3 | none
@@ -31,8 +32,8 @@ ring 2 1 1;take;seal 18446744073709551616; | 3 | taken 0;
 ring 2 1 4;attach 0;detach 0;read 0;attach 0;read 0; | 0 | refused;detached;refused;attached 0;empty 0;
 ";
 
-// The words of a program, how many bytes its trace has (0: a trace of two lines), the call of the inputs that fails, or
-// `none`, the room for answers, and the status.
+// Each line: the arguments, the size of the trace in bytes (0: a trace of two lines), the call of the inputs that fails
+// or `none`, the room for answers in bytes, and the exit status.
 const FAULTS: &str = "
 ring_trace | 0 none 100 2
 ring_trace trace trace | 0 none 100 2
@@ -51,7 +52,8 @@ struct Ran {
     answers: Vec<u8>,
 }
 
-// A run on a file `trace` in memory, whose calls in `fail` fail, with so much room for the answers.
+// Runs the program on a file `trace` in memory. The calls of the inputs in `fail` fail, and there is room for `room`
+// bytes of answers.
 fn run_on(alloc: Global, words: &str, file: &[u8], fail: &[u64], room: u64) -> Result<Ran, Memory> {
     let mut names = Vec::new(alloc);
     for word in words.split(' ') {
@@ -65,7 +67,7 @@ fn run_on(alloc: Global, words: &str, file: &[u8], fail: &[u64], room: u64) -> R
     Ok(Ran { status, answers })
 }
 
-// Lines of which each ends where a `;` stands.
+// The bytes of a text in which each `;` is a line feed.
 fn lines_of(alloc: Global, text: &str) -> Option<Vec<u8>> {
     let mut bytes = Vec::new(alloc);
     for byte in text.bytes() {
@@ -74,7 +76,7 @@ fn lines_of(alloc: Global, text: &str) -> Option<Vec<u8>> {
     Some(bytes)
 }
 
-// Whether the trace of a line is answered as it says.
+// Whether the trace of a line gives the status and the answers of the line.
 fn is_answered(alloc: Global, line: &str) -> Option<bool> {
     let (file, rest) = line.split_once(" | ")?;
     let (status, answers) = rest.split_once(" | ")?;
@@ -94,7 +96,7 @@ fn traces_are_answered(rt: HostRuntime) {
     }
 }
 
-// The bytes of a trace of so many.
+// A trace of `size` bytes.
 fn trace_of(alloc: Global, size: usize) -> Option<Vec<u8>> {
     if size == 0 {
         return lines_of(alloc, "ring 2 1 1;take;");
@@ -102,7 +104,7 @@ fn trace_of(alloc: Global, size: usize) -> Option<Vec<u8>> {
     vec![in alloc; b'x'; size].ok()
 }
 
-// Whether the run of a line ends with the status that it says.
+// Whether the run of a line ends with the status of the line.
 fn ends_so(alloc: Global, line: &str) -> Option<bool> {
     let (words, rest) = line.split_once(" | ")?;
     let mut numbers = rest.split(' ');

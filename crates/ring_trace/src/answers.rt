@@ -1,4 +1,4 @@
-// The lines that say the answers.
+// The lines of the answers.
 ghost use Rattle.std.specs.Prelude.{◌≡◌, ◌+◌, ◌≤◌, ◌++◌, length, decimal, codes};
 ghost use Rattle.ring_core.specs.State.{answer_of};
 ghost use Rattle.ring_trace.specs.Events.{answer_line};
@@ -6,7 +6,7 @@ ghost use Rattle.ring_trace.specs.Events.{answer_line};
 use ring_core::Answer;
 use text_line::Line;
 
-/// A line of one word.
+/// A line of a text alone.
 fn word(text: &str) -> Line
     requires { length text.now ≤ 16 }
     ensures { result ≡ text.now }
@@ -16,7 +16,7 @@ fn word(text: &str) -> Line
     line
 }
 
-/// A word, a number and what ends the line.
+/// A line of a text, a number and an end.
 fn with_number(text: &str, number: u64, end: &str) -> Line
     requires text { length text.now ≤ 16 }
     requires end { length end.now ≤ 16 }
@@ -29,7 +29,7 @@ fn with_number(text: &str, number: u64, end: &str) -> Line
     line
 }
 
-/// A word, two numbers and the end of the line.
+/// A line of a text and two numbers, with a line feed.
 fn with_numbers(text: &str, first: u64, second: u64) -> Line
     requires { length text.now ≤ 16 }
     ensures { result ≡ text.now ++ decimal first ++ codes " " ++ decimal second ++ codes "\n" }
@@ -40,7 +40,7 @@ fn with_numbers(text: &str, first: u64, second: u64) -> Line
     line
 }
 
-/// The line that says an answer.
+/// The line of an answer.
 pub(crate) fn line_of(answer: Answer) -> Line
     ensures { result ≡ answer_line (answer_of answer) }
 {

@@ -1,4 +1,4 @@
-//! A trace of events of a ring, replayed and answered line by line.
+//! Replays a trace of the events of a ring, with a line of output for each answer.
 #![tactic(auto)]
 
 ghost use Rattle.std.specs.Prelude.{map, string_bytes};
@@ -16,14 +16,14 @@ use psr_base::{DataFault, Inputs, Memory, Sink, read_file, write_all};
 use std::alloc::Global;
 pub use stop::Stop;
 
-/// The most bytes of a trace.
+/// The largest number of bytes of a trace.
 const MOST_BYTES: usize = 1_048_576;
 
-/// Replays the trace in the file that the second word names, and writes the answers to `out`.
+/// Replays the trace in the file that the second argument names, and writes the answers to `out`.
 ///
-/// The answer is the program's status: 0, or 2 for other words than the program's name and one file name, 6 where the
-/// file can't be read, 8 where it has more than 1048576 bytes, 5 for want of memory, 3 where a line has not its form
-/// (the lines before it are answered) or the file is empty, 10 where `out` fails.
+/// Returns the exit status: 0 if all lines were answered; 2 if the arguments are not the program's name and one file
+/// name; 3 if a line is malformed (the lines before it are answered) or the file is empty; 5 if there is no memory; 6
+/// if the file can't be read; 8 if it has more than 1048576 bytes; 10 if `out` fails.
 pub fn run_trace<I: Inputs, K: Sink>(
     alloc: Global,
     words: &[String],
@@ -44,7 +44,7 @@ pub fn run_trace<I: Inputs, K: Sink>(
     }
 }
 
-// The same, with the stop in place of its status.
+// Replays the trace, as `run_trace` does, and returns the stop in place of its status.
 fn answer_words<I: Inputs, K: Sink>(
     alloc: Global,
     words: &[String],

@@ -1,4 +1,4 @@
-// The lines of a trace: the ring's own, and one for each event.
+// The lines of a trace: the first one describes the ring, each other one is an event.
 ghost use Rattle.std.specs.Prelude.{◌≡◌, ◌≢◌, ℕ, ◌<◌, ◌++◌, List, IfSome, IfNone};
 ghost use Rattle.ring_core.specs.Machine as machine;
 ghost use Rattle.ring_core.specs.State.{event_of};
@@ -9,7 +9,7 @@ ghost use Rattle.ring_trace.specs.Events.{IsNumbered, ShapeInRange, IsRingLine, 
 use crate::text::{number, split_at_first};
 use ring_core::{Event, Shape};
 
-/// What stands after `front`.
+/// The rest of a text that begins with `front`.
 fn after<'a>(text: &'a [u8], front: &[u8]) -> Option<&'a [u8]>
     ensures some { IfSome result (λ rest. text.now ≡ front.now ++ rest.now) }
     ensures none { IfNone result ((rest : List ℕ) → text.now ≢ front.now ++ rest) }
@@ -17,7 +17,7 @@ fn after<'a>(text: &'a [u8], front: &[u8]) -> Option<&'a [u8]>
     text.strip_prefix(front)
 }
 
-/// The number that stands after `word` and one space.
+/// The number after `word` and one space.
 fn numbered(line: &[u8], word: &[u8]) -> Option<u64>
     ensures some { IfSome result (λ n. IsNumbered word.now line.now n) }
     ensures none { IfNone result ((n : ℕ) → ¬ IsNumbered word.now line.now n) }
@@ -31,7 +31,7 @@ fn numbered(line: &[u8], word: &[u8]) -> Option<u64>
     number(digits)
 }
 
-/// The three words of the ring's line.
+/// The texts of the three numbers in the line of the ring.
 fn ring_words(line: &[u8]) -> Option<(&[u8], &[u8], &[u8])>
     ensures words { IfSome result (λ words. line.now
         ≡ ring_text words.0.now words.1.now words.2.now) }
@@ -52,7 +52,7 @@ fn ring_words(line: &[u8]) -> Option<(&[u8], &[u8], &[u8])>
     }
 }
 
-/// A shape in its ranges.
+/// The shape with these measures, if they are in their ranges.
 fn shape(buffers: u64, readers: u64, max_blocks: u64) -> Option<Shape>
     ensures some { IfSome result (λ shape. ShapeInRange shape
         × (shape.buffers ≡ buffers) × (shape.readers ≡ readers) × (shape.max_blocks ≡ max_blocks)) }
@@ -71,7 +71,7 @@ fn shape(buffers: u64, readers: u64, max_blocks: u64) -> Option<Shape>
     }
 }
 
-/// The shape that the first line of a trace asks for.
+/// The shape of the ring that the first line of a trace describes.
 pub(crate) fn ring_line(line: &[u8]) -> Option<Shape>
     ensures some { IfSome result (λ shape. IsRingLine line.now shape) }
     ensures none { IfNone result ((shape : Shape) → ¬ IsRingLine line.now shape) }
@@ -91,7 +91,7 @@ pub(crate) fn ring_line(line: &[u8]) -> Option<Shape>
     shape(buffers, readers, blocks)
 }
 
-/// The reader that stands after `word` and one space, below `readers`.
+/// The reader after `word` and one space, if it is below `readers`.
 fn reader(line: &[u8], word: &[u8], readers: u32) -> Option<u32>
     ensures some { IfSome result (λ i. (IsNumbered word.now line.now i) × (i < readers)) }
     ensures none { IfNone result ((i : ℕ) → IsNumbered word.now line.now i → ¬ (i < readers)) }
@@ -102,7 +102,7 @@ fn reader(line: &[u8], word: &[u8], readers: u32) -> Option<u32>
     }
 }
 
-/// The event that a line asks for.
+/// The event of a line.
 pub(crate) fn event(line: &[u8], readers: u32) -> Option<Event>
     ensures some { IfSome result (λ event. AsksFor readers line.now (event_of event)) }
     ensures none { IfNone result ((event : machine.Event ℕ) → ¬ AsksFor readers line.now event) }

@@ -1,4 +1,4 @@
-// A trace, replayed line by line.
+// Replaying a trace line by line.
 ghost use Rattle.std.specs.Prelude.{◌≡◌, ℕ, true, false, IfOk};
 ghost use Rattle.ring_core.specs.Machine as machine;
 ghost use Rattle.ring_trace.specs.Text.{trace_lines};
@@ -13,15 +13,14 @@ use psr_base::Memory;
 use ring_core::Core;
 use std::alloc::{AllocError, Global};
 
-/// The answers' text, and whether it answers all lines, or those before the first that has not
-/// its form.
+/// The output, and whether it answers all lines, or only those before the first malformed one.
 #[derive(Drop)]
 pub(crate) struct Answers {
     pub(crate) text: Vec<u8>,
     pub(crate) is_whole: bool,
 }
 
-/// Answers one line, and says whether it asked for an event.
+/// Answers one line. Returns false if the line is no event.
 fn answer(
     core: &mut Core,
     line: &[u8],
@@ -43,7 +42,7 @@ fn answer(
     Ok(true)
 }
 
-/// Answers the lines one after another, up to the first that asks for no event.
+/// Answers the lines one after another, up to the first that is no event.
 fn answer_all(
     alloc: Global,
     core: &mut Core,
@@ -73,7 +72,7 @@ fn answer_all(
     })
 }
 
-/// Replays the trace that a file holds.
+/// Replays the trace in a file.
 pub(crate) fn replay(alloc: Global, file: &[u8]) -> Result<Answers, Memory>
     ensures whole { IfOk result (λ answers. answers.is_whole ≡ true
         → IsWhole file.now answers.text.items) }

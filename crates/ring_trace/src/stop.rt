@@ -4,9 +4,9 @@ ghost use Rattle.std.specs.Prelude.{◌≡◌};
 /// Why a replay ended before every line was answered.
 #[derive(Clone, Copy, Debug, PartialEq, Eq)]
 pub enum Stop {
-    /// The words are not the program's name and one file name.
+    /// The arguments are not the program's name and one file name.
     Words,
-    /// A line has not its form, or the file is empty.
+    /// A line is malformed, or the file is empty.
     BadLine,
     /// There was no memory.
     Memory,

@@ -3,7 +3,7 @@ ghost use Rattle.std.specs.Prelude.{◌≡◌, ◌<◌, ◌++◌, ◌∷◌, len
 ghost use Rattle.std.specs.Str.Parse.{digits_value};
 ghost use Rattle.ring_trace.specs.Text.{Lacks, IsNumber, trace_lines};
 
-/// What stands before the first `byte`, and what stands after it.
+/// The part of a text before the first `byte`, and the part after it. `None` if the text has no such byte.
 pub(crate) fn split_at_first(text: &[u8], byte: u8) -> Option<(&[u8], &[u8])>
     ensures found { IfSome result (λ parts. text.now ≡ parts.0.now ++ byte ∷ parts.1.now) }
     ensures first { IfSome result (λ parts. Lacks byte parts.0.now) }
@@ -17,7 +17,7 @@ pub(crate) fn split_at_first(text: &[u8], byte: u8) -> Option<(&[u8], &[u8])>
     None
 }
 
-/// The first line of a text that has one, and what comes after it.
+/// The first line of a text that is not empty, and what comes after it.
 pub(crate) fn first_line(text: &[u8]) -> (&[u8], &[u8])
     requires { 0 < length text.now }
     ensures lines { trace_lines text.now ≡ result.0.now ∷ trace_lines result.1.now }
@@ -29,10 +29,10 @@ pub(crate) fn first_line(text: &[u8]) -> (&[u8], &[u8])
     }
 }
 
-/// The most digits of a number, leading zeros among them.
+/// The largest number of digits of a number, with its leading zeros.
 const MOST_DIGITS: usize = 20;
 
-/// The number that a text of 1 to 20 decimal digits writes, where it fits.
+/// The number that a text of 1 to 20 decimal digits writes, if it fits 64 bits.
 pub(crate) fn number(text: &[u8]) -> Option<u64>
     ensures { SomeIff result (IsNumber text.now) (digits_value 10 text.now) }
 {

@@ -1,4 +1,5 @@
-//! The words, slots and seats of a ring that one writer and up to eight readers share: each call is one atomic step.
+//! The atomic words, slots and seats of a ring that one writer and up to eight readers share. Each call is one atomic
+//! step.
 #![tactic(auto)]
 
 mod plays;

@@ -10,7 +10,7 @@ use crate::views::View;
 use atomic_table::Seat;
 use ring_blocks::Block;
 
-/// The writer's seat. A clause sees in it what the writer knows.
+/// The writer's seat. In a clause it has what the writer knows.
 #[derive(Drop)]
 pub struct WriterSeat {
     pub(crate) seat: Seat<Block, View>,
@@ -27,7 +27,7 @@ pub struct WriterSeat {
     ghost last_look_is: { last_look ≡ (writer_of seat.me.0).last_look },
 }
 
-/// A reader's seat. A clause sees in it what the reader knows.
+/// A reader's seat. In a clause it has what the reader knows.
 #[derive(Drop)]
 pub struct ReaderSeat {
     pub(crate) seat: Seat<Block, View>,
@@ -49,21 +49,21 @@ pub struct ReaderSeat {
 impl WriterSeat {
     ghost use Rattle.ring_words.specs.Seats.{writer_view};
 
-    /// How many blocks were sealed.
+    /// The number of blocks that were sealed.
     pub fn sealed(&self) -> u64
         ensures { result ≡ length (writer_view self.now).sealed }
     {
         self.sealed
     }
 
-    /// How often the writer looked at a reader's count. It stays at `u64::MAX`.
+    /// How often the writer looked at a reader's count. It stops at `u64::MAX`.
     pub fn looks(&self) -> u64
         ensures { result ≡ min greatest (writer_view self.now).looks }
     {
         self.looks
     }
 
-    /// The reader that the writer looked at last, and the count that it saw: `u64::MAX` where the reader had retired.
+    /// The reader that the writer looked at last, and the count that it saw: `u64::MAX` if the reader had retired.
     /// `None` before the first look.
     pub fn last_look(&self) -> Option<(u32, u64)>
         ensures { result ≡ (writer_view self.now).last_look }
@@ -76,29 +76,29 @@ impl ReaderSeat {
     ghost use Rattle.std.specs.Prelude.{◌/◌, ◌%◌, option_map};
     ghost use Rattle.ring_words.specs.Seats.{reader_view};
 
-    /// The reader's number in its ring, from 0 on.
+    /// The reader's number in its ring, from 0.
     pub fn number(&self) -> u32
         ensures { result ≡ (reader_view self.now).number }
     {
         self.number
     }
 
-    /// How many blocks the reader cleared.
+    /// The number of blocks that the reader cleared.
     pub fn cleared(&self) -> u64
         ensures { result ≡ length (reader_view self.now).cleared }
     {
         self.cleared
     }
 
-    /// How often the reader tried to take a block. It stays at `u64::MAX`.
+    /// How often the reader tried to take a block. It stops at `u64::MAX`.
     pub fn tries(&self) -> u64
         ensures { result ≡ min greatest (reader_view self.now).tries }
     {
         self.tries
     }
 
-    /// What the last try found in the buffer: the number plus 1 of its block, or 0 where there was none, and who held
-    /// it: 0 for nobody, 15 for the writer, or a reader's number plus 1.
+    /// What the last try found in the buffer: the number of its block plus 1, or 0 if there was none; and the holder: 0
+    /// for nobody, 15 for the writer, a reader's number plus 1 for that reader. `None` before the first try.
     pub fn last_try(&self) -> Option<(u64, u32)>
         ensures { result
             ≡ option_map (λ word. (word / 16, word % 16)) (reader_view self.now).last_try }

@@ -3,24 +3,24 @@ ghost use Rattle.std.specs.Prelude.{MatchResult};
 
 use thiserror::Error;
 
-/// How many readers a ring has at most.
+/// The largest number of readers of a ring.
 pub const MOST_READERS: usize = 8;
 
-/// The measures of a ring, which never change. `check` says whether they lie in their ranges: 2 to 64 buffers of 1 to
-/// 2^24 bytes, 1 to 8 readers, 1 to 2^59 - 1 blocks.
+/// The shape of a ring, which never changes. `check` tests that it is in its ranges: 2 to 64 buffers of 1 to 2^24
+/// bytes, 1 to 8 readers, 1 to 2^59 - 1 blocks.
 #[derive(Clone, Copy, PartialEq, Eq, Debug)]
 pub struct RingShape {
-    /// How many blocks the ring holds at once.
+    /// The number of buffers: the ring holds this many blocks at a time.
     pub buffers: u32,
-    /// The space of each block in bytes.
+    /// The size of each buffer, in bytes.
     pub size: u32,
-    /// How many readers it has.
+    /// The number of readers.
     pub readers: u32,
-    /// How many blocks are sealed at most, over the whole life of the ring.
+    /// The largest number of blocks that are sealed over the life of the ring.
     pub max_blocks: u64,
 }
 
-/// The first measure that a ring cannot have.
+/// The first measure of a shape that is out of its range.
 #[derive(Clone, Copy, PartialEq, Eq, Debug, Error)]
 pub enum ShapeFault {
     #[error("a ring has 2 to 64 buffers")]
@@ -36,7 +36,7 @@ pub enum ShapeFault {
 impl RingShape {
     ghost use Rattle.ring_words.specs.Shape.{IsRing, IsFirstFault};
 
-    /// Whether a ring can have these measures.
+    /// Checks that each measure is in its range. The error is the first one that isn't.
     pub fn check(&self) -> Result<(), ShapeFault>
         ensures { MatchResult result (λ _. IsRing self.now) (IsFirstFault self.now) }
     {

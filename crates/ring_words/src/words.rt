@@ -1,4 +1,4 @@
-//! The table of the ring, and its steps.
+//! The words and slots of the ring, and the steps on them.
 ghost use Rattle.std.specs.Prelude.{◌≡◌, ◌+◌, ◌-◌, ◌*◌, ◌%◌, ◌^◌, ◌<◌, IfOk, All, length, take};
 ghost use Rattle.ring_blocks.specs.Contents.{room_of};
 ghost use Rattle.ring_words.specs.Shape.{IsRing};
@@ -13,13 +13,13 @@ use ring_blocks::{Block, BlockTaker, Mark};
 use ring_core::Memory;
 use std::alloc::{AllocError, Global};
 
-/// What the word of a buffer has for a holder, where it is the writer.
+/// The holder of a buffer in its word, if the writer holds it.
 const WRITER: u64 = 15;
 
-/// The word of a reader's count, once it retired.
+/// The count of a reader in its word, once the reader is retired.
 const RETIRED: u64 = u64::MAX;
 
-/// The words and slots of a ring. Threads share it by reference.
+/// The words and slots of a ring. Threads share them by reference.
 #[derive(Drop)]
 pub struct Words {
     table: Table<Block, View, RingShape, RingRule, Global>,
@@ -37,7 +37,7 @@ impl Words {
     ghost use Rattle.ring_words.specs.Steps.{SeesRoom, SawCount, TookBuffer, SealedEntry, TookBlock, MissedBlock, CopiedBlock, LentBlock, GaveBuffer, ClearedBlock, RetiredReader};
     ghost use Rattle.ring_words.specs.Seats.{shape_of, writer_view, reader_view, Writes, Reads, IsFreshReader, HasFreshReader};
 
-    /// Lays out a ring with every block at home. The seat at place i is that of reader i.
+    /// Opens a ring in which nobody holds a buffer. The seat at place `i` is that of reader `i`.
     pub fn open(
         alloc: Global,
         shape: RingShape,
@@ -65,7 +65,7 @@ impl Words {
         Ok((words, writer, readers))
     }
 
-    // The ring before any reader has a seat.
+    // A ring in which no reader has a seat yet.
     fn lay(alloc: Global, shape: RingShape) -> Result<(Words, WriterSeat), Memory>
         requires { IsRing shape }
         ensures shape { IfOk result (λ r. shape_of r.0 ≡ shape) }
@@ -89,7 +89,7 @@ impl Words {
         }
     }
 
-    // Gives the next reader its seat.
+    // Gives reader `number`, the next one, its seat.
     fn seat_reader(&self, writer: &mut WriterSeat, number: u32) -> ReaderSeat
         requires seat { Writes self.now writer.old }
         requires near { number < (shape_of self.now).readers }
@@ -109,7 +109,7 @@ impl Words {
         }
     }
 
-    /// The measures that it was opened with.
+    /// The shape that the ring was opened with.
     pub fn shape(&self) -> RingShape
         ensures shape { result ≡ shape_of self.now }
         ensures ring { IsRing result }
@@ -117,7 +117,7 @@ impl Words {
         self.shape
     }
 
-    /// Loads the count of a reader: `u64::MAX` where it retired.
+    /// Loads the count of a reader: `u64::MAX` if it is retired.
     pub fn look(&self, writer: &mut WriterSeat, reader: u32) -> u64
         requires seat { Writes self.now writer.old }
         requires reader { reader < (shape_of self.now).readers }
@@ -131,15 +131,15 @@ impl Words {
         found
     }
 
-    /// The count of a reader as it stands at this moment, `u64::MAX` where it retired. No seat changes, and no look is
-    /// counted. It is a hint: no clause speaks of the answer.
+    /// The count of a reader at this moment: `u64::MAX` if it is retired. No seat changes, and no look is counted. The
+    /// answer is a hint: no clause speaks of it.
     pub fn peek_count(&self, reader: u32) -> u64
         requires { reader < (shape_of self.now).readers }
     {
         self.table.shared.peek(self.count_word_of(reader))
     }
 
-    /// Takes the buffer of the next block, which no reader needs any more.
+    /// Takes the buffer for the next block. No reader needs it any more.
     pub fn writer_take(&self, writer: &mut WriterSeat)
         requires seat { Writes self.now writer.old }
         requires home { (writer_view writer.old).out ≡ false }
@@ -157,7 +157,7 @@ impl Words {
         );
     }
 
-    /// Fills the block that the writer holds, seals it, and answers its number.
+    /// Fills the block that the writer holds, seals it, and returns its number.
     pub fn seal(&self, writer: &mut WriterSeat, bytes: &[u8], mark: Mark) -> u64
         requires seat { Writes self.now writer.old }
         requires out { (writer_view writer.old).out ≡ true }
@@ -179,8 +179,8 @@ impl Words {
         number
     }
 
-    /// Seals the block that the writer holds, with the first `used` bytes of the space, and answers its number. No byte
-    /// is copied: the block's space and this one change places.
+    /// Seals the block that the writer holds, with the first `used` bytes of `space`, and returns its number. No byte
+    /// is copied: the block and the caller swap their spaces.
     pub fn seal_space(
         &self,
         writer: &mut WriterSeat,
@@ -211,9 +211,8 @@ impl Words {
         number
     }
 
-    /// Tries to take the buffer of the reader's next block. An error is the word that stood there: 16 (n + 1) for the
-    /// block n that was sealed in it last, or 0 where there was none, plus 0 where nobody held it, 15 for the writer or
-    /// i + 1 for reader i.
+    /// Tries to take the buffer of the reader's next block. An error is the word of that buffer: 16 (n + 1) if block n
+    /// was sealed in it last, or 0 if none was, plus the holder: 0 for nobody, 15 for the writer, i + 1 for reader i.
     pub fn reader_take(&self, reader: &mut ReaderSeat) -> Result<(), u64>
         requires seat { Reads self.now reader.old }
         requires home { (reader_view reader.old).out ≡ false }
@@ -235,16 +234,16 @@ impl Words {
         if found == home { Ok(()) } else { Err(found) }
     }
 
-    /// Whether the reader's next block is at home at this moment. The seat stays as it is, and no try is counted. It is
-    /// a hint: no clause speaks of the answer.
+    /// Whether the reader's next block is sealed and nobody holds it, at this moment. The seat doesn't change, and no
+    /// try is counted. The answer is a hint: no clause speaks of it.
     pub fn has_next(&self, reader: &ReaderSeat) -> bool
         requires { Reads self.now reader.now }
     {
         self.table.shared.peek(self.slot_of(reader.cleared)) == home_word(reader.cleared)
     }
 
-    /// Copies the block that the reader holds to the front of `into`, and gives its buffer back. It answers how many
-    /// bytes there are, and the mark.
+    /// Copies the block that the reader holds to the front of `into`, and gives its buffer back. Returns the number of
+    /// bytes, and the mark.
     pub fn give(&self, reader: &mut ReaderSeat, into: &mut [u8]) -> (u32, Mark)
         requires seat { Reads self.now reader.old }
         requires out { (reader_view reader.old).out ≡ true }
@@ -263,8 +262,8 @@ impl Words {
         (used, mark)
     }
 
-    /// Lends the block that the reader holds to a part of a taker, and gives its buffer back. It answers how many bytes
-    /// there are, and the mark.
+    /// Lends the block that the reader holds to `taker` for its part `part`, and gives its buffer back. Returns the
+    /// number of bytes, and the mark.
     pub fn lend<T: BlockTaker>(
         &self,
         reader: &mut ReaderSeat,
@@ -289,7 +288,7 @@ impl Words {
         (used, mark)
     }
 
-    /// Counts the block that the reader got as cleared, and answers the new count.
+    /// Counts the block that the reader gave back as cleared, and returns the new count.
     pub fn clear(&self, reader: &mut ReaderSeat) -> u64
         requires seat { Reads self.now reader.old }
         requires home { (reader_view reader.old).out ≡ false }
@@ -306,7 +305,7 @@ impl Words {
         count
     }
 
-    /// Takes the reader out of those that the writer waits for.
+    /// Retires the reader: the writer no longer waits for it.
     pub fn retire(&self, reader: &mut ReaderSeat)
         requires seat { Reads self.now reader.old }
         requires home { (reader_view reader.old).out ≡ false }
@@ -321,7 +320,7 @@ impl Words {
         );
     }
 
-    /// Gives the writer what the reader knows.
+    /// Takes back the seat of a reader: the writer then knows what the reader knows.
     pub fn join(&self, writer: &mut WriterSeat, reader: ReaderSeat)
         requires writer_seat { Writes self.now writer.old }
         requires reader_seat { Reads self.now reader }
@@ -340,7 +339,7 @@ impl Words {
         self.table.shared.join_seat::<Park>(&mut writer.seat, seat);
     }
 
-    // The slot, and the word, of the buffer of a block.
+    // The place of the buffer of a block, which is that of its slot and of its word.
     fn slot_of(&self, number: u64) -> usize
         ensures { result ≡ number % (shape_of self.now).buffers }
     {
@@ -353,7 +352,7 @@ impl Words {
         self.shape.buffers as usize + reader as usize
     }
 
-    // The word of the buffer of the next block, where the block in it was left behind by every reader.
+    // The word of the buffer for the next block, once every reader has cleared the block in it or is retired.
     fn passed_word(&self, sealed: u64) -> u64
         requires { sealed < 2 ^ 59 }
         ensures { result ≡ 16 * ((sealed + 1) - (shape_of self.now).buffers) }
@@ -362,7 +361,7 @@ impl Words {
     }
 }
 
-// The word of a buffer that is at home with this block.
+// The word of a buffer that has this block and that nobody holds.
 fn home_word(number: u64) -> u64
     requires { number < 2 ^ 59 }
     ensures { result ≡ 16 * (number + 1) }
@@ -370,7 +369,7 @@ fn home_word(number: u64) -> u64
     16 * (number + 1)
 }
 
-// So many empty blocks.
+// A list of `count` empty blocks of `size` bytes.
 fn open_blocks(alloc: Global, count: u32, size: u32) -> Result<Vec<Block>, Memory>
     ensures count { IfOk result (λ v. length v.items ≡ count) }
     ensures room { IfOk result (λ v. All (λ b. room_of b ≡ size) v.items) }

@@ -6,7 +6,7 @@ use Rattle.row_model.specs.declared.Merge.{Merge}
 use Rattle.row_model.specs.declared.Source.{Source}
 use Rattle.row_model.specs.declared.Source.TheVariants.{Channel, Sum}
 
--- the value of row r that ends so many spectra before spectrum u
+-- `y r u late` is the value of row r that ends `late` spectra before spectrum u
 abbrev pub Sums : Type 0
 Sums = ℕ → ℕ → ℕ → ℕ
 

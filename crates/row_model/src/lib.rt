@@ -3,11 +3,14 @@
 //! A row has a value for each spectrum. It is made of the samples of a channel, or of two other rows, value by value.
 #![tactic(auto)]
 
-/// Two rows, by their numbers, that are added value by value. The upper one ends `late` spectra earlier.
+/// Two rows that are added value by value.
 #[derive(Clone, Copy, PartialEq, Eq, Debug)]
 pub struct Merge {
+    /// The number of the upper row. Its values are taken `late` spectra earlier.
     pub upper: u32,
+    /// The number of the lower row.
     pub lower: u32,
+    /// The delay of the upper row, in spectra.
     pub late: u32,
 }
 
@@ -20,11 +23,11 @@ pub enum Source {
     Sum(Merge),
 }
 
-/// Rows by number, and how much of each is kept from one chunk to the next.
+/// All rows, by number, and how much of each is kept from one chunk to the next.
 #[derive(Drop)]
 pub struct Rows {
     /// What each row is made of.
     pub sources: Vec<Source>,
-    /// How many of its last values are kept of each row, a multiple of 16.
+    /// How many of the last values of each row are kept: a multiple of 16.
     pub tails: Vec<u32>,
 }

@@ -14,12 +14,12 @@ use Rattle.row_model.specs.Tails.{AreRows}
 use Rattle.row_schedule.specs.declared.builder.Order.{Order}
 use Rattle.row_schedule.specs.declared.step.Kind.{Kind}
 use Rattle.row_schedule.specs.declared.step.Step.{Step}
-use Rattle.row_schedule.specs.Orders.{AreInOrder, MakeAll, StandsBeside, order_at, holds}
+use Rattle.row_schedule.specs.Orders.{AreInOrder, StandsBeside, order_at, holds}
 use Rattle.row_schedule.specs.Marks.{AreMadeOnce, slot_of}
 use Rattle.row_schedule.specs.Schedules.{Scheduled}
 use Rattle.row_schedule.specs.Steps.{AreApart, IsSafe, PartFits, StepFits, copies, kept_size_of, lower_narrow, makes_narrow, size_of, step_at, upper_narrow}
 use Rattle.row_schedule.specs.Layout.{AreHolds, AreLaid, AreSizes, AreWithin, hold_of, kept_room, slot_narrow, tail_of}
-use Rattle.row_schedule.specs.Follows.{AddsRows, AreSteps, BeginsAt, Follows, IsStep, StandApart}
+use Rattle.row_schedule.specs.Follows.{AddsRows, AreSteps, BeginsAt, IsStep, StandApart}
 use Rattle.row_schedule.proofs.Holding.{MakesIn, holds_made, held_found, slot_at, row_at}
 use Rattle.row_schedule.proofs.Keeping.{hold_within}
 
@@ -290,19 +290,4 @@ is_safe rows s rows_are sizes order kept laid are entries steps within = record 
   within = within;
   fit = λ j lt.
       step_fits rows s rows_are sizes j (step_at s.steps j) (omega arith) order kept laid are (steps j lt);
-}
-
-pub follows : (rows : Rows) (s : Scheduled) → AreRows s.channels rows → (sizes : List ℕ) →
-    AreInOrder rows s.narrow s.slots s.orders → MakeAll rows s.orders → AreHolds rows s.narrow s.held s.kept_narrow_size s.kept_wide_size →
-    AreLaid s.slots sizes (length s.slots) s.places s.narrow_size s.wide_size →
-    AreSizes rows s.orders (length s.slots) s.most sizes → length s.steps ≡ length s.orders →
-    AreSteps rows s.narrow s.orders s.places s.chunk s.steps → Follows rows s
-follows rows s rows_are sizes order all kept laid are entries steps = record {
-  rows_are = rows_are;
-  order = order;
-  all = all;
-  entries = entries;
-  steps_are = steps;
-  apart = stand_apart rows s sizes laid are (within_of rows s.narrow s.slots s.orders order);
-  holds_are = kept;
 }

@@ -30,7 +30,7 @@ pub record AddsRows (rows : Rows) (narrow : List Bool) (orders : List Order) (pl
   pub upper : BeginsAt rows orders places j m.upper (step.upper + m.late)
   pub lower : BeginsAt rows orders places j m.lower step.lower
 
--- it copies the samples of channel c
+-- a step copies the samples of channel c
 pub record CopiesChannel (chunk c : ℕ) (step : Step) : Type 0 where
   pub copies_it : copies step.kind ≡ true
   pub from : step.upper ≡ c * chunk
@@ -48,7 +48,7 @@ pub record IsStep (rows : Rows) (narrow : List Bool) (orders : List Order) (plac
   pub sum : (m : Merge) → slice_get rows.sources.items (order_at orders j).row ≡ Some (Sum m) →
       AddsRows rows narrow orders places j m step
 
--- each of the steps does
+-- each step j makes the row of order j in its slot
 abbrev pub AreSteps : Rows → List Bool → List Order → List ℕ → ℕ → List Step → Type 0
 AreSteps rows narrow orders places chunk steps = (j : ℕ) → j < length steps →
     IsStep rows narrow orders places chunk j (step_at steps j)

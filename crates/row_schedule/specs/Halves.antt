@@ -3,7 +3,7 @@
 use Rattle.std.specs.Prelude.{◌≡◌, ℕ, ◌+◌, length, slice_index}
 use Rattle.row_schedule.specs.declared.halves.Halves.{Halves}
 
--- both have so many values
+-- both halves have `count` values
 pub record HaveLength (count : ℕ) (halves : Halves) : Type 0 where
   pub upper : length halves.upper.now ≡ count
   pub lower : length halves.lower.now ≡ count

@@ -1,5 +1,4 @@
--- Where slots stand, and where what is kept of rows does.
--- Source: this project's choice.
+-- Where slots begin, and where what is kept of rows begins.
 use Rattle.std.specs.Prelude.{◌≡◌, ◌≢◌, ℕ, ◌+◌, ◌^◌, ◌≤◌, ◌<◌, true, false, Bool, List, zero, suc, length, slice_index, slice_index_or, if◌then◌else◌}
 use Rattle.row_model.specs.declared.Rows.{Rows}
 use Rattle.row_model.specs.Sums.{is_narrow}
@@ -18,37 +17,39 @@ slot_narrow slots slot = slice_index_or slots slot false
 abbrev pub tail_of : Rows → ℕ → ℕ
 tail_of rows r = slice_index rows.tails.items r
 
--- how many of them are kept in a width: all in that of the row, and none in the other
+-- how many values are kept of row r in a list of a width: all in that of the row's own width, none
+-- in the other
 abbrev pub kept_in : Rows → List Bool → Bool → ℕ → ℕ
 kept_in rows narrow width r =
     if width then (if is_narrow narrow r then tail_of rows r else 0)
     else (if is_narrow narrow r then 0 else tail_of rows r)
 
--- how many values are kept in a width of the rows before row r
+-- how many values are kept of the rows before row r in the list of a width
 unfoldable pub kept_before : Rows → List Bool → Bool → ℕ → ℕ
 kept_before rows narrow width zero = 0
 kept_before rows narrow width (suc r) =
     kept_before rows narrow width r + kept_in rows narrow width r
 
--- how many values stand in front of these, and are not used
+-- how many unused values stand in front of the list of a width
 abbrev pub lead_of : Bool → ℕ
 lead_of width = if width then NARROW_LEAD else LEAD
 
--- where those of row r begin in the list of a width: the rows of this width alone have room
+-- where the kept values of row r begin in the list of a width: only rows of this width have room
+-- there
 abbrev pub hold_of : Rows → List Bool → Bool → ℕ → ℕ
 hold_of rows narrow width r = lead_of width + kept_before rows narrow width r
 
--- how much room there is for what is kept of all rows of a width
+-- how long the list of a width is that has what is kept of all its rows
 abbrev pub kept_room : Rows → List Bool → Bool → ℕ
 kept_room rows narrow width = hold_of rows narrow width (row_count rows)
 
--- a list says of each row where they begin in the list of its width
+-- a list has for each row where its kept values begin in the list of its width
 pub record HasHolds (rows : Rows) (narrow : List Bool) (held : List ℕ) : Type 0 where
   pub entries : length held ≡ row_count rows
   pub each : (r : ℕ) → r < row_count rows →
       slice_index held r ≡ hold_of rows narrow (is_narrow narrow r) r
 
--- and so long are the lists of both widths
+-- a list has for each row where its kept values begin, and both lists have room for all of them
 pub record AreHolds (rows : Rows) (narrow : List Bool) (held : List ℕ)
     (narrow_size wide_size : ℕ) : Type 0 where
   pub places : HasHolds rows narrow held
@@ -60,8 +61,7 @@ abbrev pub AreWithin : Rows → List Order → ℕ → Type 0
 AreWithin rows orders slots = (j : ℕ) → j < length orders →
     ((order_at orders j).row < row_count rows) × ((order_at orders j).slot < slots)
 
--- a row that is made in a slot is not longer than it, with `most` values behind those that are
--- kept of the row
+-- a slot has room for what is kept of each row made in it, and for `most` values behind that
 pub record AreSizes (rows : Rows) (orders : List Order) (slots most : ℕ) (sizes : List ℕ) :
     Type 0 where
   pub entries : length sizes ≡ slots
@@ -80,7 +80,7 @@ pub record AreLaid (slots : List Bool) (sizes : List ℕ) (count : ℕ) (places 
       AreApart (slice_index places s) (slice_index sizes s) (slice_index places t)
       (slice_index sizes t)
 
--- the slots of a builder stand so, and are long enough for its rows
+-- the slots of a builder stand apart, and are long enough for its rows
 pub record IsLaid (rows : Rows) (b : Building) (most : ℕ) (places : List ℕ)
     (narrow_size wide_size : ℕ) : Type 0 where
   pub sizes : List ℕ

@@ -16,7 +16,7 @@ pub record OwnFits (step : Step) (spectra size kept_size : ℕ) : Type 0 where
   pub own : step.out + (step.tail + spectra) ≤ size
   pub kept : step.hold + step.tail ≤ kept_size
 
--- as many values as a step adds stand in a list of so many, apart from those that it makes
+-- as many values as a step adds stand in a list of this length, apart from those that it makes
 pub record IsBeside (step : Step) (spectra place size : ℕ) : Type 0 where
   pub within : place + spectra ≤ size
   pub apart : AreApart place spectra step.out (step.tail + spectra)

@@ -32,13 +32,14 @@ pub record AreMarked (b : Building) (marks found : List (Option ℕ)) : Type 0 w
   pub found_are : AreFound b.orders found
   pub once : AreMadeOnce b.orders
 
--- both rows that a row is made of stand in other slots than its own, and have 16 bits where it has
+-- both rows that a row is made of stand in slots other than its own; if the row has 16 bits, so
+-- have both
 pub record HasBoth (b : Building) (o : Order) (m : Merge) : Type 0 where
   pub upper : StandsBeside b.orders (length b.orders) o.slot m.upper
   pub lower : StandsBeside b.orders (length b.orders) o.slot m.lower
   pub narrow_sums : AreAsNarrow b.narrow o.row m
 
--- the slot of an order is there, as wide as its row
+-- the slot of an order exists, and is as wide as its row
 pub record HasWidth (b : Building) (o : Order) : Type 0 where
   pub slot : o.slot < length b.slots
   pub width : slice_index_or b.slots o.slot false ≡ is_narrow b.narrow o.row

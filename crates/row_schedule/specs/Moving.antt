@@ -23,7 +23,7 @@ kept_lists kept_narrow kept_wide = stores [] [] kept_narrow kept_wide
 abbrev pub Writes : Bool → ℕ → ℕ → Type 0
 Writes narrow value written = (narrow ≡ true → value < 2 ^ 16) → written ≡ value
 
--- so many values of another list are written into the list of a width, from a place on
+-- `count` values of another list are written into the list of a width, from place `at` on
 pub record PutsKept (narrow : Bool) (others : List ℕ) (from : ℕ) (old new : List ℕ)
     (at count : ℕ) : Type 0 where
   pub written : (i : ℕ) → i < count →
@@ -48,7 +48,7 @@ pub record IsHold (rows : Rows) (narrow : List Bool) (r : ℕ) (hold : Hold) : T
 abbrev pub KeepFirst : Rows → List Bool → Sums → ℕ → Stores → ℕ → Type 0
 KeepFirst rows narrow y u st r = (q : ℕ) → q < r → KeepsRow rows narrow y u st q
 
--- what was kept in some lists is kept in others, where rows may have other widths
+-- what was kept in some lists is kept in others, whose rows may have other widths
 abbrev pub GoesOver : Rows → List Bool → List Bool → Stores → Stores → Type 0
 GoesOver rows narrow next old new = (y : Sums) (u : ℕ) → Fit next y u →
     Kept rows narrow y u old → Kept rows next y u new

@@ -29,14 +29,14 @@ is_made orders (suc j) r =
 abbrev pub StandsBeside : List Order → ℕ → ℕ → ℕ → Type 0
 StandsBeside orders j slot r = (s : ℕ) × (holds orders j s ≡ Some r) × (s ≢ slot)
 
--- rows of 16 bits are made of rows of 16 bits alone
+-- a row of 16 bits is made only of rows of 16 bits
 pub record AreAsNarrow (narrow : List Bool) (r : ℕ) (m : Merge) : Type 0 where
   pub upper : is_narrow narrow r ≡ true → is_narrow narrow m.upper ≡ true
   pub lower : is_narrow narrow r ≡ true → is_narrow narrow m.lower ≡ true
 
 -- After the first j orders a row can be made in a slot: it was not made, the slot is as wide as the
--- row, and what it is made of stands in other slots. `slots` says of each slot whether it is for
--- rows of 16 bits, and `narrow` so of each row.
+-- row, and what it is made of stands in other slots. `slots` tells which slots are for rows of 16
+-- bits, `narrow` which rows have 16 bits.
 pub record IsReady (rows : Rows) (narrow slots : List Bool) (orders : List Order) (j : ℕ)
     (o : Order) : Type 0 where
   pub row : o.row < row_count rows
@@ -55,7 +55,7 @@ abbrev pub AreInOrder : Rows → List Bool → List Bool → List Order → Type
 AreInOrder rows narrow slots orders = (j : ℕ) → j < length orders →
     IsReady rows narrow slots orders j (order_at orders j)
 
--- and all rows are made of which something is kept
+-- the orders make every row of which something is kept
 abbrev pub MakeAll : Rows → List Order → Type 0
 MakeAll rows orders = (r : ℕ) → r < row_count rows → 0 < slice_index_or rows.tails.items r 0 →
     is_made orders (length orders) r ≡ true

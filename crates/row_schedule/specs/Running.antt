@@ -26,7 +26,7 @@ stores narrow wide kept_narrow kept_wide = record {
   kept_wide = kept_wide;
 }
 
--- they are as long as a schedule needs, or longer
+-- the lists are as long as a schedule needs, or longer
 pub record HaveRoom (s : Scheduled) (st : Stores) : Type 0 where
   pub narrow_room : s.narrow_size ≤ length st.narrow
   pub wide_room : s.wide_size ≤ length st.wide
@@ -57,12 +57,12 @@ abbrev pub slot_value : Scheduled → Stores → ℕ → ℕ → ℕ
 slot_value s st slot i =
     slice_index (list_of (slot_narrow s.slots slot) st) (slice_index s.places slot + i)
 
--- Before the sums that end at spectrum u, this is kept of row r.
+-- before the sums that end at spectrum u, this is kept of row r
 abbrev pub KeepsRow : Rows → List Bool → Sums → ℕ → Stores → ℕ → Type 0
 KeepsRow rows narrow y u st r = (i : ℕ) → i < slice_index rows.tails.items r →
     kept_value rows narrow st r i ≡ value_of y rows.tails.items u r i
 
--- and this of all rows
+-- before the sums that end at spectrum u, this is kept of all rows
 abbrev pub Kept : Rows → List Bool → Sums → ℕ → Stores → Type 0
 Kept rows narrow y u st = (r : ℕ) → r < row_count rows → KeepsRow rows narrow y u st r
 

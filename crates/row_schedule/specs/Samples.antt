@@ -9,8 +9,8 @@ abbrev pub values_of : Samples → List ℕ
 values_of (Words words) = words.now
 values_of (Bytes bytes) = bytes.now
 
--- Row c of the list, which begins at c * chunk, has the samples of channel c of so many spectra,
--- from spectrum u on; `x c t` is the sample of channel c at spectrum t.
+-- Row c of the list, which begins at c * chunk, has the `spectra` samples of channel c from
+-- spectrum u on; `x c t` is the sample of channel c at spectrum t.
 abbrev pub AreNext : (ℕ → ℕ → ℕ) → ℕ → ℕ → ℕ → ℕ → List ℕ → Type 0
 AreNext x channels chunk u spectra samples = (c i : ℕ) → c < channels → i < spectra →
     slice_index samples (c * chunk + i) ≡ x c (u + i)

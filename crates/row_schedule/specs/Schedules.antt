@@ -19,10 +19,10 @@ building narrow slots orders = record { narrow = narrow; slots = slots; orders =
 abbrev pub IsInOrder : Rows → Building → Type 0
 IsInOrder rows b = AreInOrder rows b.narrow b.slots b.orders
 
--- Rows are made of up to `most` spectra at a time, over so many channels, of which the samples are
--- `chunk` places apart. `places` says where each slot begins in the list of its width, and `held` so of
--- what is kept of each row. The lists have so many values or more, also those of what is kept of the
--- rows. `steps` says for each order which values are read and written.
+-- A schedule makes rows over up to `most` spectra at a time. The samples of a channel begin `chunk`
+-- places after those of the one before. `places` has where each slot begins in the list of its
+-- width, `held` where what is kept of each row begins, and `steps` for each order which values are
+-- read and written. The sizes are the smallest lengths of the lists.
 pub record Scheduled : Type 0 where
   pub channels : ℕ
   pub chunk : ℕ
@@ -57,8 +57,8 @@ scheduled channels chunk most narrow slots orders places held steps narrow_size 
       kept_wide_size = kept_wide_size;
     }
 
--- a schedule of these orders, for up to `most` spectra at a time of so many channels, the samples of
--- which are `chunk` places apart
+-- a schedule of these orders, for up to `most` spectra at a time of `channels` channels, whose
+-- samples begin `chunk` places apart
 pub record HasParts (b : Building) (channels chunk most : ℕ) (s : Scheduled) : Type 0 where
   pub narrow : s.narrow ≡ b.narrow
   pub slots : s.slots ≡ b.slots

@@ -16,7 +16,7 @@ makes_narrow AddWideNarrow = false
 makes_narrow AddNarrowWide = false
 makes_narrow AddWide = false
 
--- whether it is made of the samples of a channel
+-- whether the row that is made has the samples of a channel
 abbrev pub copies : Kind → Bool
 copies CopyNarrow = true
 copies CopyWide = true
@@ -36,7 +36,7 @@ upper_narrow AddWideNarrow = false
 upper_narrow AddNarrowWide = true
 upper_narrow AddWide = false
 
--- and whether the lower one has
+-- whether the lower one of two rows that are added has 16 bits
 abbrev pub lower_narrow : Kind → Bool
 lower_narrow CopyNarrow = false
 lower_narrow CopyWide = false
@@ -65,12 +65,12 @@ AreApart a n b m = (a + n ≤ b) ⊎ (b + m ≤ a)
 abbrev pub size_of : Scheduled → Bool → ℕ
 size_of s narrow = if narrow then s.narrow_size else s.wide_size
 
--- and that of what is kept
+-- how many values the list of what is kept in a width has at least
 abbrev pub kept_size_of : Scheduled → Bool → ℕ
 kept_size_of s narrow = if narrow then s.kept_narrow_size else s.kept_wide_size
 
--- values of rows of a width that are added from a place on are there, apart from those that the
--- step makes
+-- the values that a step adds or copies from a place on lie within the list of a width, apart from
+-- those that it makes
 pub record PartFits (s : Scheduled) (step : Step) (narrow : Bool) (place : ℕ) : Type 0 where
   pub within : place + s.most ≤ size_of s narrow
   pub apart : narrow ≡ makes_narrow step.kind →
@@ -84,7 +84,7 @@ pub record StepFits (s : Scheduled) (step : Step) : Type 0 where
   pub upper : copies step.kind ≡ false → PartFits s step (upper_narrow step.kind) step.upper
   pub lower : copies step.kind ≡ false → PartFits s step (lower_narrow step.kind) step.lower
 
--- all steps do, and there is one for each order
+-- all steps read and write within the lists, and there is one for each order
 pub record IsSafe (s : Scheduled) : Type 0 where
   pub entries : length s.steps ≡ length s.orders
   pub slot_entries : length s.places ≡ length s.slots

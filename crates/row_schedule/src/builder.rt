@@ -1,4 +1,4 @@
-// Orders that are taken one by one.
+// Takes orders one by one, and checks each.
 ghost use Rattle.std.specs.Prelude.{◌≡◌, ℕ, ◌+◌, ◌<◌, ◌++◌, ◌∷◌, [], ◌↔◌, IsTrue, IfOk, OnErr, Ok, true, false, length};
 ghost use Rattle.row_model.specs.Sums.{is_narrow};
 ghost use Rattle.row_model.specs.Tails.{AreRows};
@@ -15,17 +15,19 @@ use row_model::{Merge, Rows, Source};
 use std::alloc::Global;
 use std::marker::Model;
 
-// How many slots there may be, as many as rows.
+// The maximum number of slots: as many as there may be rows.
 const MOST_SLOTS: usize = 134217728;
 
-/// That a row is to be made in a slot.
+/// An order to make a row in a slot.
 #[derive(Clone, Copy, PartialEq, Eq, Debug)]
 pub struct Order {
+    /// The number of the row.
     pub row: u32,
+    /// The number of the slot.
     pub slot: u32,
 }
 
-/// Orders so far, each of which can be carried out after those before it.
+/// The orders taken so far. Each can be carried out after those before it.
 #[derive(Drop)]
 pub struct Builder {
     narrow: Vec<bool>,
@@ -48,8 +50,8 @@ impl Model for Builder {
 }
 
 impl Builder {
-    /// A builder that has taken no order: `narrow` says which rows have 16 bits, and `slots` of each slot whether it is
-    /// for such rows. More than 2^27 slots, as many as there may be rows, are refused as want of memory.
+    /// A builder without orders. `narrow` tells which rows have 16 bits, `slots` which slots are for such rows. More
+    /// than 2^27 slots are refused with `Memory`.
     pub fn open(
         alloc: Global,
         rows: &Rows,
@@ -80,7 +82,7 @@ impl Builder {
         row_is_narrow(&self.narrow, row as usize)
     }
 
-    // Whether a slot other than `slot` has row `row`.
+    // Whether row `row` stands in a slot other than `slot`.
     fn stands_beside(&self, slot: u32, row: u32) -> bool
         ensures { IsTrue result
             ↔ StandsBeside self.now.orders (length self.now.orders) slot row }
@@ -91,7 +93,7 @@ impl Builder {
         }
     }
 
-    // Whether a row can be made in a slot of two others.
+    // Whether both rows of `merge` stand in slots other than that of the order. A row of 16 bits needs two of 16 bits.
     fn has_both(&self, order: Order, merge: Merge) -> bool
         ensures { IsTrue result ↔ HasBoth self.now order merge }
     {
@@ -110,7 +112,7 @@ impl Builder {
         slot_found(&self.found, row).is_some()
     }
 
-    // Whether the slot of an order is there, as wide as its row.
+    // Whether the slot of an order exists and is as wide as its row.
     fn has_width(&self, order: Order) -> bool
         ensures { IsTrue result ↔ HasWidth self.now order }
     {
@@ -140,7 +142,7 @@ impl Builder {
         }
     }
 
-    /// Takes an order where it can be carried out next, and says whether it can.
+    /// Takes an order if it can be carried out next, and answers whether it can.
     pub fn add(&mut self, rows: &Rows, order: Order) -> Result<bool, Memory>
         ensures exact { IfOk result (λ taken. IsTrue taken ↔ IsReady rows.now self.old.narrow
             self.old.slots self.old.orders (length self.old.orders) order) }

@@ -1,4 +1,4 @@
-// Rows that are made each at a place of its own, and all stand there.
+// Makes rows each at a place of its own, where they stand all at once.
 ghost use Rattle.std.specs.Prelude.{◌≡◌, ◌≢◌, ℕ, ◌+◌, ◌*◌, ◌^◌, ◌<◌, ◌≤◌, true, false, length, slice_index};
 ghost use Rattle.fdmt_rows.specs.Rows.{wrapping_sum};
 ghost use Rattle.row_model.specs.Sums.{Sums, AddUp, Fit};
@@ -19,7 +19,7 @@ use crate::schedule::Schedule;
 use fdmt_rows::add_rows;
 use row_model::{Merge, Rows, Source};
 
-/// The place of row `row`, where each row has one of so many values.
+/// The place of row `row`, if each row has a place of `room` values.
 pub fn own_place(room: usize, row: usize) -> usize
     requires few { row ≤ 2 ^ 32 }
     requires short { room ≤ 65536 }
@@ -28,7 +28,8 @@ pub fn own_place(room: usize, row: usize) -> usize
     LEAD + row * room
 }
 
-// Adds a part of another list and a part of this one into a third part.
+// Adds `count` values of this list, from `lower` on, and of `other`, from `place` on. The sums go to place `at` of this
+// list.
 fn add_other_parts(
     list: &mut [u32],
     at: usize,
@@ -50,7 +51,8 @@ fn add_other_parts(
     add_rows(own, below, &other[place..place + count]);
 }
 
-// Adds a part of what is kept and a part of this list into another part of it.
+// Adds `count` values of this list, from `lower` on, and of `kept`, from `place` on. The sums go to place `at` of this
+// list.
 fn add_kept_parts(
     list: &mut [u32],
     at: usize,
@@ -72,8 +74,8 @@ fn add_kept_parts(
     }
 }
 
-// Adds so many values of two rows, of which the upper one ends `late` spectra earlier: its first values are kept, and
-// begin at `held`.
+// Adds `count` values of two rows, the upper one taken `late` spectra earlier. The first `late` values of the upper row
+// are those kept from place `held` on.
 fn add_late(
     list: &mut [u32],
     at: usize,
@@ -98,7 +100,7 @@ fn add_late(
     add_parts(list, at + early, upper, lower + early, count - early);
 }
 
-// Makes a row of two others at its place.
+// Makes a row that is the sum of two others, at its place.
 fn fill_sum(
     rows: &Rows,
     schedule: &Schedule,
@@ -139,8 +141,8 @@ fn fill_sum(
     );
 }
 
-/// Makes row `row` of the next spectra, so many, at its place: the samples of channel `c` begin at `c` times the chunk,
-/// the rows that it is made of stand at their places, and what is kept of all rows is there as the schedule keeps it.
+/// Makes row `row` of the next `spectra` spectra at its place. The samples of channel `c` begin at `c * chunk`. The
+/// rows that it is made of stand at their places, and of all rows is kept what the schedule keeps.
 pub fn fill_row(
     rows: &Rows,
     schedule: &Schedule,
@@ -188,7 +190,8 @@ pub fn fill_row(
     }
 }
 
-// Leaves out so many values in front of a part of a list, or all, and as many others come last in it.
+// Moves `count` values into a part of a list from its end: the first values of the part leave it. Of more than `size`
+// values the last `size` are taken.
 fn go_on(list: &mut [u32], at: usize, size: usize, others: &[u32], from: usize, count: usize)
     requires own { at + size ≤ length list.old }
     requires others { from + count ≤ length others.now }
@@ -200,7 +203,8 @@ fn go_on(list: &mut [u32], at: usize, size: usize, others: &[u32], from: usize, 
     copy_part(list, at + left, others, from + (count - new), new);
 }
 
-// The same in a list of 16 bits.
+// Moves `count` values into a part of a list of 16 bits from its end: the first values of the part leave it. Of more
+// than `size` values the last `size` are taken.
 fn go_on_narrow(list: &mut [u16], at: usize, size: usize, others: &[u32], from: usize, count: usize)
     requires own { at + size ≤ length list.old }
     requires others { from + count ≤ length others.now }
@@ -212,7 +216,7 @@ fn go_on_narrow(list: &mut [u16], at: usize, size: usize, others: &[u32], from: 
     narrow_part(list, at + left, others, from + (count - new), new);
 }
 
-// Keeps row `row`, which stands at its place, for the spectra after these.
+// Keeps the last values of row `row`, which stands at its place, for later spectra.
 fn keep_row(
     rows: &Rows,
     schedule: &Schedule,
@@ -247,7 +251,7 @@ fn keep_row(
     go_on(kept_wide, hold.at, hold.size, wide, from, spectra);
 }
 
-/// Keeps all rows, which stand at their places, for the spectra after these, as the schedule keeps them.
+/// Keeps the last values of all rows, which stand at their places, for later spectra, as the schedule keeps them.
 pub fn keep_rows(
     rows: &Rows,
     schedule: &Schedule,

@@ -4,16 +4,17 @@ ghost use Rattle.row_schedule.specs.Halves.{HaveLength, half_sum};
 
 use fdmt_rows::greatest_narrow_sum;
 
-/// The two rows of 16 bits of which a row of 32 bits is made, the upper and the lower one: the row has the sum of both
-/// at each place.
+/// Two rows of 16 bits, whose sum is a row of 32 bits.
 #[derive(Clone, Copy)]
 pub struct Halves<'a> {
+    /// The upper row: the part of the band with the higher frequencies.
     pub upper: &'a [u16],
+    /// The lower row.
     pub lower: &'a [u16],
 }
 
 impl<'a> Halves<'a> {
-    /// So many values from these places of a list on.
+    /// The `count` values of a list from each of these two places on.
     pub(crate) fn of(list: &'a [u16], upper: usize, lower: usize, count: usize) -> Halves<'a>
         requires upper { upper + count ≤ length list.now }
         requires lower { lower + count ≤ length list.now }
@@ -27,7 +28,7 @@ impl<'a> Halves<'a> {
         }
     }
 
-    /// A bound of these sums: none is greater. The greatest u32 bounds nothing.
+    /// An upper bound of all sums of the two rows, or `u32::MAX` if none is known.
     pub fn bound(self) -> u32
         requires { (count : ℕ) × HaveLength count self }
         ensures { (count k : ℕ) → HaveLength count self.entry → k < count → result < 2 ^ 32 - 1

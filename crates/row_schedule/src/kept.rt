@@ -1,4 +1,4 @@
-// What is kept from one chunk to the next, in either width, and laws on it.
+// What is kept from one chunk to the next, in 16 or 32 bits, and laws of it.
 ghost use Rattle.std.specs.Prelude.{◌≡◌, ℕ, ◌+◌, ◌%◌, ◌^◌, ◌<◌, ◌≤◌, true, false, length, slice_index};
 ghost use Rattle.row_model.specs.Sums.{Sums, Fit};
 ghost use Rattle.row_model.specs.Tails.{row_count};
@@ -13,36 +13,39 @@ use crate::schedule::Schedule;
 use fdmt_rows::{narrow_row, widen_row};
 use row_model::Rows;
 
-/// With what is kept before the next spectra, a schedule of which no order was carried out on them begins. It does
+/// Law: with what is kept from earlier spectra, a schedule is at its beginning, with no order carried out. It does
 /// nothing.
 pub fn running_begins()
     ensures { RunningBegins }
 {}
 
-/// Once all orders were carried out, the rows are kept for the next spectra. It does nothing.
+/// Law: once all orders were carried out, the rows are kept for the next spectra. It does nothing.
 pub fn running_ends()
     ensures { RunningEnds }
 {}
 
-/// An order can be left out of whose row nothing is kept and no row is made. It does nothing.
+/// Law: an order can be left out if nothing is kept of its row and no row is made of it. It does nothing.
 pub fn last_rows_are_left_out()
     ensures { LastRowsAreLeftOut }
 {}
 
-/// Before the first spectrum zeros are kept. It does nothing.
+/// Law: before the first spectrum, what is kept is zeros. It does nothing.
 pub fn nothing_kept()
     ensures { NothingKept }
 {}
 
-/// Where what is kept of a row stands: so many values of the list of its width, from a place on.
+/// Where the kept values of a row stand.
 #[derive(Clone, Copy)]
 pub struct Hold {
+    /// Whether they have 16 bits.
     pub narrow: bool,
+    /// The place of the first one in the list of its width.
     pub at: usize,
+    /// The number of values.
     pub size: usize,
 }
 
-/// What is kept of all rows of a width, lent.
+/// The kept values of all rows of one width, lent.
 #[derive(Clone, Copy)]
 pub enum KeptValues<'a> {
     /// In 16 bits.
@@ -52,7 +55,7 @@ pub enum KeptValues<'a> {
 }
 
 impl<'a> KeptValues<'a> {
-    /// What is kept in a width.
+    /// The kept values of 16 bits if `narrow`, otherwise those of 32 bits.
     pub fn of(narrow: bool, kept_narrow: &'a [u16], kept_wide: &'a [u32]) -> KeptValues<'a>
         ensures { lent result ≡ kept_of narrow (kept_lists kept_narrow.now kept_wide.now) }
     {
@@ -62,7 +65,7 @@ impl<'a> KeptValues<'a> {
         KeptValues::Wide(kept_wide)
     }
 
-    // Writes so many of these values in 16 bits.
+    // Writes `count` values from `place` on in 16 bits, to place `at` of `out`.
     fn narrow_to(self, out: &mut [u16], at: usize, place: usize, count: usize)
         requires own { at + count ≤ length out.old }
         requires from { place + count ≤ length (lent self) }
@@ -74,7 +77,7 @@ impl<'a> KeptValues<'a> {
         }
     }
 
-    // Writes so many of these values in 32 bits.
+    // Writes `count` values from `place` on in 32 bits, to place `at` of `out`.
     fn widen_to(self, out: &mut [u32], at: usize, place: usize, count: usize)
         requires own { at + count ≤ length out.old }
         requires from { place + count ≤ length (lent self) }
@@ -87,7 +90,7 @@ impl<'a> KeptValues<'a> {
     }
 }
 
-// Writes so many values of 16 bits as values of 32 bits.
+// Writes `count` values of 16 bits, from `place` on, in 32 bits to place `at` of `out`.
 fn widen_part(out: &mut [u32], at: usize, from: &[u16], place: usize, count: usize)
     requires own { at + count ≤ length out.old }
     requires from { place + count ≤ length from.now }
@@ -96,7 +99,7 @@ fn widen_part(out: &mut [u32], at: usize, from: &[u16], place: usize, count: usi
     widen_row(&mut out[at..at + count], &from[place..place + count]);
 }
 
-/// Writes so many values of 32 bits as values of 16 bits.
+/// Writes `count` values of 32 bits, from `place` on, in 16 bits (modulo 2^16) to place `at` of `out`.
 pub fn narrow_part(out: &mut [u16], at: usize, from: &[u32], place: usize, count: usize)
     requires own { at + count ≤ length out.old }
     requires from { place + count ≤ length from.now }
@@ -105,7 +108,7 @@ pub fn narrow_part(out: &mut [u16], at: usize, from: &[u32], place: usize, count
     narrow_row(&mut out[at..at + count], &from[place..place + count]);
 }
 
-// Writes what was kept of row `r` where another schedule keeps it.
+// Moves what is kept of row `r` from the place of one schedule to that of the next.
 fn take_row(
     rows: &Rows,
     before: &Schedule,
@@ -139,8 +142,8 @@ fn take_row(
     values.widen_to(kept_wide, to.at, from.at, to.size);
 }
 
-/// Writes what was kept of all rows where another schedule keeps it. It stays the same where the values of rows of 16
-/// bits fit.
+/// Moves what is kept of all rows from the places of one schedule to those of the next. The values stay the same if
+/// they fit into the next schedule's rows of 16 bits.
 pub fn take_rows(
     rows: &Rows,
     before: &Schedule,

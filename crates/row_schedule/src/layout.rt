@@ -1,4 +1,4 @@
-// Where slots stand in the lists of their widths.
+// Places slots in the list of their width.
 ghost use Rattle.std.specs.Prelude.{◌≡◌, ℕ, ◌+◌, ◌*◌, ◌^◌, ◌<◌, ◌≤◌, ◌++◌, ◌∷◌, [], IfOk, OnOk, length, replicate, slice_index, if◌then◌else◌};
 ghost use Rattle.row_model.specs.Tails.{AreRows};
 ghost use Rattle.row_schedule.specs.Layout.{AreHolds, AreLaid, AreSizes, AreWithin};
@@ -10,19 +10,22 @@ use psr_base::Memory;
 use row_model::Rows;
 use std::alloc::Global;
 
-// The places of rows are multiples of so many values.
+// Rows begin at multiples of this many values.
 const STRIDE: usize = 16;
 
-/// Where slots begin, or what is kept of rows, each in the list of its width, and how long these are.
+/// The places of slots, or of what is kept of rows, each in the list of its width.
 #[derive(Drop)]
 pub struct Layout {
+    /// Where each one begins.
     pub places: Vec<usize>,
+    /// How long the list of 16-bit values is.
     pub narrow_size: usize,
+    /// How long the list of 32-bit values is.
     pub wide_size: usize,
 }
 
 impl Layout {
-    // Places the next one.
+    // Places the next slot or row at the end of the list of its width.
     fn place(&mut self, narrow: bool, size: usize) -> Result<(), Memory>
         requires narrow { self.old.narrow_size ≤ 2 ^ 62 }
         requires wide { self.old.wide_size ≤ 2 ^ 62 }
@@ -44,7 +47,7 @@ impl Layout {
         Ok(())
     }
 
-    /// Places all slots, each as long as `sizes` says.
+    /// Places all slots. Slot s has `sizes[s]` values, of 16 bits if `slots[s]`.
     pub fn of(alloc: Global, slots: &[bool], sizes: &[usize]) -> Result<Layout, Memory>
         requires same { length sizes.now ≡ length slots.now }
         requires few { length slots.now ≤ 2 ^ 27 }
@@ -64,7 +67,7 @@ impl Layout {
         Ok(layout)
     }
 
-    /// Places what is kept of all rows.
+    /// Places what is kept of all rows, in 16 bits for the rows that are `narrow`.
     pub fn of_kept(alloc: Global, rows: &Rows, narrow: &[bool]) -> Result<Layout, Memory>
         requires rows { (c : ℕ) × AreRows c rows.now }
         ensures { IfOk result (λ l. AreHolds rows.now narrow.now l.places.items l.narrow_size
@@ -82,7 +85,7 @@ impl Layout {
     }
 }
 
-// So many values, rounded up so that rows behind it stand at such places too.
+// `count`, rounded up to a multiple of the stride.
 fn rounded(count: usize) -> usize
     requires { count ≤ 65536 }
     ensures least { count ≤ result }
@@ -91,14 +94,14 @@ fn rounded(count: usize) -> usize
     (count + STRIDE - 1) / STRIDE * STRIDE
 }
 
-// So many slots of a size.
+// A list of sizes: `slots` times `size`.
 fn filled(alloc: Global, size: usize, slots: usize) -> Result<Vec<usize>, Memory>
     ensures { IfOk result (λ sizes. sizes.items ≡ replicate slots size) }
 {
     Ok(vec![in alloc; size; slots]?)
 }
 
-// A slot is at least so long.
+// Makes a slot at least `size` values long.
 fn raise(sizes: &mut Vec<usize>, slot: usize, size: usize)
     requires { slot < length sizes.old.items }
     ensures entries { length sizes.new.items ≡ length sizes.old.items }
@@ -110,8 +113,8 @@ fn raise(sizes: &mut Vec<usize>, slot: usize, size: usize)
     sizes[slot] = size.max(sizes[slot]);
 }
 
-/// How long each slot is: as the longest of what is kept of the rows that are made in it, and room for `most`
-/// values behind it.
+/// The number of values of each slot: the longest tail of a row that is made in it, and room for `most` values behind
+/// that tail.
 pub fn slot_sizes(
     alloc: Global,
     rows: &Rows,

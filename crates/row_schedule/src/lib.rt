@@ -1,10 +1,10 @@
-//! Rows of sums that are made chunk by chunk, in an order and in slots that are laid once.
+//! Makes rows of sums chunk by chunk, in an order and in slots that are laid once.
 //!
-//! A row is made in a slot: what is kept of it comes first, and behind it its values of the next spectra. A slot can be
-//! used again for other rows. An order says that a row is to be made in a slot: `Builder` takes it only where it can be
-//! carried out after those before it, and `Schedule` carries all of them out.
+//! In its slot a row begins with what is kept of it from earlier spectra; its values of the next spectra follow. A slot
+//! can be used again for other rows. An `Order` says which row is made in which slot. `Builder` takes an order only if
+//! it can be carried out after those before it, and `Schedule` carries all of them out.
 //!
-//! Where all rows are to stand at once, each is made at a place of its own (`Stores::fill_row`), without what is kept.
+//! If all rows are to stand at once, each is made at a place of its own (`Stores::fill_row`), without what is kept.
 #![tactic(auto)]
 
 mod builder;

@@ -1,4 +1,4 @@
-// How the row of a step is made: what is kept of it, then its values of the next spectra, of which the last are kept.
+// Makes the row of a step: first what is kept of it, then its values of the next spectra. The last values are kept.
 ghost use Rattle.std.specs.Prelude.{◌≡◌, ◌+◌, ◌-◌, ◌%◌, ◌^◌, ◌<◌, ◌≤◌, true, false, length, slice_index, take, drop};
 ghost use Rattle.fdmt_rows.specs.Rows.{narrow_sum, wrapping_sum};
 ghost use Rattle.row_schedule.specs.Samples.{values_of};
@@ -11,7 +11,8 @@ use fdmt_rows::{
     add_mixed_rows, add_narrow_rows, add_rows, add_widened_rows, copy_narrow_row, copy_row,
 };
 
-// So many values from a place of a list on, of which these parts stand before and after its values up to `past`.
+// The `count` values from `place` on of a list, of which `before` and `after` are known: what lies before a part, and
+// what begins at `past`, where that part ends. The values lie outside that part.
 #[inline(always)]
 pub(crate) fn beside<'a, T>(
     before: &'a [T],
@@ -36,7 +37,7 @@ pub(crate) fn beside<'a, T>(
     &after[at..at + count]
 }
 
-// Copies so many values.
+// Copies `count` values, from `place` of `from` to `at` of `out`.
 #[inline(always)]
 pub(crate) fn copy_part(out: &mut [u32], at: usize, from: &[u32], place: usize, count: usize)
     requires own { at + count ≤ length out.old }
@@ -46,6 +47,7 @@ pub(crate) fn copy_part(out: &mut [u32], at: usize, from: &[u32], place: usize, 
     copy_row(&mut out[at..at + count], &from[place..place + count]);
 }
 
+// Copies `count` values of 16 bits, from `place` of `from` to `at` of `out`.
 #[inline(always)]
 pub(crate) fn copy_narrow_part(out: &mut [u16], at: usize, from: &[u16], place: usize, count: usize)
     requires own { at + count ≤ length out.old }
@@ -55,7 +57,7 @@ pub(crate) fn copy_narrow_part(out: &mut [u16], at: usize, from: &[u16], place: 
     copy_narrow_row(&mut out[at..at + count], &from[place..place + count]);
 }
 
-// Copies so many samples, in 16 bits.
+// Copies `count` samples, from `place` on, to `at` of `out`, modulo 2^16.
 #[inline(always)]
 fn copy_narrow_samples(out: &mut [u16], at: usize, samples: Samples<'_>, place: usize, count: usize)
     requires own { at + count ≤ length out.old }
@@ -68,6 +70,7 @@ fn copy_narrow_samples(out: &mut [u16], at: usize, samples: Samples<'_>, place: 
         .narrow_to(&mut out[at..at + count]);
 }
 
+// Copies `count` samples, from `place` on, to `at` of `out`.
 #[inline(always)]
 pub(crate) fn copy_samples(
     out: &mut [u32],
@@ -84,7 +87,7 @@ pub(crate) fn copy_samples(
     samples.part(place, count).copy_to(&mut out[at..at + count]);
 }
 
-// Adds two parts of a list into a third one.
+// Adds the `count` values from `upper` on and those from `lower` on. The sums go to place `at` of the same list.
 #[inline(always)]
 pub(crate) fn add_parts(list: &mut [u32], at: usize, upper: usize, lower: usize, count: usize)
     requires own { at + count ≤ length list.old }
@@ -103,6 +106,7 @@ pub(crate) fn add_parts(list: &mut [u32], at: usize, upper: usize, lower: usize,
     add_rows(own, above, below);
 }
 
+// Adds values of 16 bits as `add_parts` does, modulo 2^16.
 #[inline(always)]
 fn add_narrow_parts(list: &mut [u16], at: usize, upper: usize, lower: usize, count: usize)
     requires own { at + count ≤ length list.old }
@@ -121,7 +125,7 @@ fn add_narrow_parts(list: &mut [u16], at: usize, upper: usize, lower: usize, cou
     add_narrow_rows(own, above, below);
 }
 
-// Adds a part of a list and values of 16 bits into another part of it.
+// Adds the `count` values from `wide` on and the 16-bit values from `place` on. The sums go to place `at`.
 #[inline(always)]
 pub(crate) fn add_mixed_parts(
     list: &mut [u32],
@@ -144,7 +148,7 @@ pub(crate) fn add_mixed_parts(
     add_mixed_rows(own, above, &narrow[place..place + count]);
 }
 
-// Adds two parts of values of 16 bits.
+// Adds the `count` 16-bit values from `upper` on and those from `lower` on. The sums go to place `at`, in 32 bits.
 #[inline(always)]
 fn add_widened_parts(
     list: &mut [u32],
@@ -168,7 +172,7 @@ fn add_widened_parts(
     );
 }
 
-// What is kept of a row comes first.
+// Writes what is kept of the row to the front of its slot.
 #[inline(always)]
 fn begin(step: Step, list: &mut [u32], kept: &[u32])
     requires own { step.out + step.tail ≤ length list.old }
@@ -179,6 +183,7 @@ fn begin(step: Step, list: &mut [u32], kept: &[u32])
     copy_part(list, step.out, kept, step.hold, step.tail as usize);
 }
 
+// Writes what is kept of a row of 16 bits to the front of its slot.
 #[inline(always)]
 fn begin_narrow(step: Step, list: &mut [u16], kept: &[u16])
     requires own { step.out + step.tail ≤ length list.old }
@@ -189,7 +194,7 @@ fn begin_narrow(step: Step, list: &mut [u16], kept: &[u16])
     copy_narrow_part(list, step.out, kept, step.hold, step.tail as usize);
 }
 
-// Its last values are kept.
+// Keeps the last values of the row.
 #[inline(always)]
 fn end(step: Step, list: &[u32], kept: &mut [u32], spectra: usize)
     requires own { step.out + (step.tail + spectra) ≤ length list.now }
@@ -201,6 +206,7 @@ fn end(step: Step, list: &[u32], kept: &mut [u32], spectra: usize)
     copy_part(kept, step.hold, list, from, step.tail as usize);
 }
 
+// Keeps the last values of a row of 16 bits.
 #[inline(always)]
 fn end_narrow(step: Step, list: &[u16], kept: &mut [u16], spectra: usize)
     requires own { step.out + (step.tail + spectra) ≤ length list.now }
@@ -212,7 +218,7 @@ fn end_narrow(step: Step, list: &[u16], kept: &mut [u16], spectra: usize)
     copy_narrow_part(kept, step.hold, list, from, step.tail as usize);
 }
 
-/// A row of samples, in 16 bits.
+/// Makes a row of samples, in 16 bits.
 #[inline(always)]
 pub fn copy_narrow(
     step: Step,
@@ -232,7 +238,7 @@ pub fn copy_narrow(
     end_narrow(step, list, kept, spectra);
 }
 
-/// A row of samples, in 32 bits.
+/// Makes a row of samples, in 32 bits.
 #[inline(always)]
 pub fn copy_wide(
     step: Step,
@@ -252,7 +258,7 @@ pub fn copy_wide(
     end(step, list, kept, spectra);
 }
 
-/// The sums of two rows of 16 bits, in 16 bits.
+/// Makes the sum of two rows of 16 bits, in 16 bits.
 #[inline(always)]
 pub fn add_narrow(step: Step, list: &mut [u16], kept: &mut [u16], spectra: usize)
     requires own { OwnFits step spectra (length list.old) (length kept.old) }
@@ -268,7 +274,7 @@ pub fn add_narrow(step: Step, list: &mut [u16], kept: &mut [u16], spectra: usize
     end_narrow(step, list, kept, spectra);
 }
 
-/// The sums of two rows of 16 bits, in 32 bits.
+/// Makes the sum of two rows of 16 bits, in 32 bits.
 #[inline(always)]
 pub fn add_widened(step: Step, list: &mut [u32], kept: &mut [u32], narrow: &[u16], spectra: usize)
     requires own { OwnFits step spectra (length list.old) (length kept.old) }
@@ -284,7 +290,7 @@ pub fn add_widened(step: Step, list: &mut [u32], kept: &mut [u32], narrow: &[u16
     end(step, list, kept, spectra);
 }
 
-/// The sums of a row of 32 bits and one of 16 bits.
+/// Makes the sum of an upper row of 32 bits and a lower row of 16 bits.
 #[inline(always)]
 pub fn add_wide_narrow(
     step: Step,
@@ -306,7 +312,7 @@ pub fn add_wide_narrow(
     end(step, list, kept, spectra);
 }
 
-/// The sums of a row of 16 bits and one of 32 bits.
+/// Makes the sum of an upper row of 16 bits and a lower row of 32 bits.
 #[inline(always)]
 pub fn add_narrow_wide(
     step: Step,
@@ -328,7 +334,7 @@ pub fn add_narrow_wide(
     end(step, list, kept, spectra);
 }
 
-/// The sums of two rows of 32 bits.
+/// Makes the sum of two rows of 32 bits.
 #[inline(always)]
 pub fn add_wide(step: Step, list: &mut [u32], kept: &mut [u32], spectra: usize)
     requires own { OwnFits step spectra (length list.old) (length kept.old) }

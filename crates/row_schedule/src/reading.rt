@@ -1,4 +1,4 @@
-// What is read of rows.
+// Reads what is known of a row.
 ghost use Rattle.std.specs.Prelude.{◌≡◌, ℕ, ◌^◌, ◌<◌, ◌≤◌, Some, slice_get};
 ghost use Rattle.row_model.specs.Sums.{is_narrow};
 ghost use Rattle.row_model.specs.Tails.{AreRows, row_count};
@@ -16,7 +16,7 @@ pub fn row_is_narrow(narrow: &[bool], row: usize) -> bool
     }
 }
 
-/// What row `row` is made of, if it is there.
+/// What row `row` is made of, or `None` if there is no such row.
 pub fn find_source(rows: &Rows, row: usize) -> Option<Source>
     ensures { result ≡ slice_get rows.now.sources.items row }
 {

@@ -1,4 +1,4 @@
-// Samples that are lent.
+// Samples that are lent, in either width.
 ghost use Rattle.std.specs.Prelude.{◌≡◌, ℕ, ◌+◌, ◌%◌, ◌^◌, ◌≤◌, length, slice_index, take, drop};
 ghost use Rattle.fdmt_rows.specs.Rows.{Narrows};
 ghost use Rattle.row_schedule.specs.Samples.{values_of};
@@ -15,7 +15,7 @@ pub enum Samples<'a> {
 }
 
 impl<'a> Samples<'a> {
-    /// All but the first `count` of them.
+    /// All samples but the first `count`.
     pub fn skip(self, count: usize) -> Samples<'a>
         requires { count ≤ length (values_of self) }
         ensures { values_of result ≡ drop count (values_of self.entry) }
@@ -26,7 +26,7 @@ impl<'a> Samples<'a> {
         }
     }
 
-    /// A bound of them: none is greater.
+    /// An upper bound: no sample is greater.
     pub fn bound(self) -> u32
         ensures { (k : ℕ) → slice_index (values_of self.entry) k ≤ result }
     {
@@ -36,7 +36,7 @@ impl<'a> Samples<'a> {
         }
     }
 
-    // So many of them from a place on.
+    // The `count` samples from place `at` on.
     pub(crate) fn part(self, at: usize, count: usize) -> Samples<'a>
         requires { at + count ≤ length (values_of self) }
         ensures { values_of result ≡ take count (drop at (values_of self.entry)) }
@@ -47,7 +47,7 @@ impl<'a> Samples<'a> {
         }
     }
 
-    // Writes them as values of 32 bits.
+    // Writes all samples as values of 32 bits.
     pub(crate) fn copy_to(self, out: &mut [u32])
         requires { length (values_of self) ≡ length out.old }
         ensures { (k : ℕ) → slice_index out.new k ≡ slice_index (values_of self.entry) k % 2 ^ 32 }
@@ -58,7 +58,7 @@ impl<'a> Samples<'a> {
         }
     }
 
-    // Writes them as values of 16 bits.
+    // Writes all samples as values of 16 bits, modulo 2^16.
     pub(crate) fn narrow_to(self, out: &mut [u16])
         requires { length (values_of self) ≡ length out.old }
         ensures { Narrows out.new (values_of self.entry) }
@@ -70,7 +70,7 @@ impl<'a> Samples<'a> {
     }
 }
 
-// A byte that none of these is greater than.
+// An upper bound of the bytes: none is greater.
 fn greatest_byte(bytes: &[u8]) -> u8
     ensures { (k : ℕ) → slice_index bytes.now k ≤ result }
 {

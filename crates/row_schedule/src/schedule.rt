@@ -1,4 +1,4 @@
-// A schedule, and how it is carried out.
+// A schedule, and how its orders are carried out.
 ghost use Rattle.std.specs.Prelude.{◌≡◌, ℕ, ◌+◌, ◌-◌, ◌*◌, ◌%◌, ◌^◌, ◌<◌, ◌≤◌, false, length, slice_index, IfSome};
 ghost use Rattle.row_model.specs.Sums.{Sums, AddUp, Fit, is_narrow};
 ghost use Rattle.row_model.specs.Tails.{row_count};
@@ -24,7 +24,7 @@ use crate::stores::{Sizes, Stores};
 use row_model::Rows;
 use std::marker::Model;
 
-/// How rows are made of the next spectra, step by step. It was laid by `Builder::finish`.
+/// Steps that make the rows of the next spectra. `Builder::finish` lays it.
 #[derive(Drop)]
 pub struct Schedule {
     pub(crate) channels: usize,
@@ -58,7 +58,7 @@ impl Model for Schedule {
 }
 
 impl Schedule {
-    /// How many values the lists need that it works on.
+    /// How many values each of the lists must have at least.
     pub fn sizes(&self) -> Sizes
         ensures narrow { result.narrow ≡ self.now.narrow_size }
         ensures wide { result.wide ≡ self.now.wide_size }
@@ -73,7 +73,7 @@ impl Schedule {
         }
     }
 
-    // Where what is kept of row `row` stands.
+    // Where the values stand that are kept of row `row`.
     pub(crate) fn hold(&self, rows: &Rows, row: usize) -> Hold
         requires follows { Follows rows.now self.now }
         requires row { row < row_count rows.now }
@@ -86,7 +86,7 @@ impl Schedule {
         }
     }
 
-    /// How many rows are made.
+    /// The number of orders.
     pub fn orders(&self) -> usize
         ensures { result ≡ length self.now.orders }
     {
@@ -101,7 +101,7 @@ impl Schedule {
         self.orders[j]
     }
 
-    // Each step reads and writes within the lists; it does nothing.
+    // Law: each step reads and writes within the lists. It does nothing.
     fn holds(&self)
         ensures { IsSafe self.now }
     {
@@ -146,10 +146,9 @@ impl Schedule {
         }
     }
 
-    /// Carries out the orders from `from` up to, but without, `to`, over the next spectra, so many: the samples of
-    /// channel `c`, the highest frequency first, begin at `c` times the chunk. Behind those of the last channel nothing
-    /// need follow, so samples can be lent from some spectrum on. The lists have at least as many values as `sizes`
-    /// says.
+    /// Carries out the orders from `from` up to, but without, `to`, over the next `spectra` spectra. The samples of
+    /// channel `c`, the highest frequency first, begin at `c * chunk`. `samples` may end with the last sample used, so
+    /// a slice that begins at a later spectrum can be passed. The lists have at least as many values as `sizes` says.
     pub fn run(
         &self,
         from: usize,
@@ -181,8 +180,8 @@ impl Schedule {
         }
     }
 
-    /// The two rows of 16 bits of which the row of an order, which is to be carried out next, is made in 32 bits: each
-    /// of its values that end at the next spectra is the sum of theirs. There are none where it is made of others.
+    /// The two rows of 16 bits whose sum is the 32-bit row of order `order`, which is to be carried out next: their
+    /// values of the next spectra. `None` if that row is made of anything else.
     pub fn halves<'a>(&self, order: usize, stores: &'a Stores, spectra: usize) -> Option<Halves<'a>>
         requires order { order < length self.now.orders }
         requires room { HaveRoom self.now stores.now }
@@ -201,7 +200,7 @@ impl Schedule {
         }
     }
 
-    /// The values of the row of an order, which has 32 bits and stands in its slot, that end at the next spectra.
+    /// The values of the next spectra in the row of order `order`, which has 32 bits and stands in its slot.
     pub fn row<'a>(
         &self,
         rows: &Rows,

@@ -6,8 +6,7 @@ use psr_base::Memory;
 use std::alloc::Global;
 use std::marker::Model;
 
-/// The lists of a schedule that may follow another. Their memory is taken, and none of it is touched before they are
-/// filled.
+/// The lists of a schedule that may follow another one. Their memory is taken, but not touched until they are filled.
 #[derive(Drop)]
 pub struct SpareStores {
     pub(crate) sizes: Sizes,
@@ -31,7 +30,7 @@ impl Model for SpareStores {
 }
 
 impl SpareStores {
-    /// Takes the memory for so many values.
+    /// Takes the memory for lists of these sizes.
     pub fn of(alloc: Global, sizes: Sizes) -> Result<SpareStores, Memory>
         ensures { IfOk result (λ spare. spare ≡ sizes) }
     {
@@ -45,7 +44,7 @@ impl SpareStores {
     }
 }
 
-/// Puts a value behind a list until it has so many, where it has fewer. It has memory for them.
+/// Appends `value` to a list until it has `size` values. The list has memory for them.
 pub fn fill_up<T: Copy>(list: &mut Vec<T>, size: usize, value: T)
     requires { size ≤ vec_capacity list.old }
     ensures { size ≤ length list.new.items }

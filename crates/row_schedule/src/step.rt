@@ -19,15 +19,15 @@ pub enum Kind {
     AddWide,
 }
 
-/// Which values a step reads and writes. All places are those in the lists, with the values in front.
+/// Which values a step reads and writes. All places are places of the whole lists, whose first values are not used.
 #[derive(Clone, Copy, PartialEq, Eq, Debug)]
 pub struct Step {
     pub kind: Kind,
-    /// How many values are kept of the row.
+    /// How many values of the row are kept.
     pub tail: u32,
-    /// Where its slot begins.
+    /// Where the slot of the row begins.
     pub out: usize,
-    /// Where the values begin that are kept of it.
+    /// Where the values begin that are kept of the row.
     pub hold: usize,
     /// Where the values of the upper row begin that are added, or the samples that are copied.
     pub upper: usize,

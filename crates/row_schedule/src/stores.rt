@@ -20,22 +20,22 @@ use row_model::Rows;
 use std::alloc::Global;
 use std::marker::Model;
 
-/// How many values the lists have that schedules work on, with those in front that are not used.
+/// The lengths of the lists that schedules work on. They include the unused values in front.
 #[derive(Clone, Copy)]
 pub struct Sizes {
     /// The slots of rows of 16 bits.
     pub narrow: usize,
     /// The slots of rows of 32 bits.
     pub wide: usize,
-    /// What is kept of rows in 16 bits.
+    /// What is kept of rows of 16 bits.
     pub kept_narrow: usize,
-    /// What is kept of rows in 32 bits.
+    /// What is kept of rows of 32 bits.
     pub kept_wide: usize,
 }
 
 impl Sizes {
-    /// For rows that are made each at a place of its own, of `room` values. What is kept of them has the sizes of a
-    /// schedule.
+    /// The sizes for rows that are each made at a place of its own, of `room` values. What is kept of the rows is not
+    /// counted: a schedule's `sizes` has that.
     pub fn of_tables(rows: &Rows, room: usize) -> Sizes
         requires rows { (c : ℕ) × AreRows c rows.now }
         requires few { room ≤ 65536 }
@@ -49,7 +49,7 @@ impl Sizes {
         }
     }
 
-    /// The greater ones of both.
+    /// The maximum of both, list by list.
     pub fn most(self, other: Sizes) -> Sizes
         ensures tables { (rows : Rows) (room : ℕ) → AreEnoughForTables rows room self
             → AreEnoughForTables rows room result }
@@ -65,8 +65,7 @@ impl Sizes {
     }
 }
 
-/// The lists that schedules work on. Values are samples or sums of samples; in front of each list stand some that are
-/// not used.
+/// The lists that schedules work on: samples and sums of samples. Each list begins with some unused values.
 #[derive(Drop)]
 pub struct Stores {
     /// The slots in which rows of 16 bits are made.
@@ -88,7 +87,7 @@ impl Model for Stores {
 }
 
 impl Stores {
-    /// Lists of so many zeros.
+    /// Takes the memory for lists of zeros, of these sizes.
     pub fn zeros(alloc: Global, sizes: Sizes) -> Result<Stores, Memory>
         ensures { IfOk result (AreZeros sizes) }
     {
@@ -114,8 +113,8 @@ impl Stores {
         self.wide.as_slice()
     }
 
-    /// Goes over to the lists of another schedule: what is kept is written there as that keeps it, and stays the same
-    /// where the values of rows of 16 bits fit.
+    /// Replaces the lists by those of another schedule, and moves what is kept of rows there. The kept values stay the
+    /// same if they fit into the next schedule's rows of 16 bits.
     pub fn go_over(&mut self, rows: &Rows, before: &Schedule, next: &Schedule, spare: SpareStores)
         requires before { Follows rows.now before.now }
         requires next { Follows rows.now next.now }
@@ -153,9 +152,9 @@ impl Stores {
 }
 
 impl Stores {
-    /// Makes row `row` of the next spectra, so many, in 32 bits at its place, where each row has one of `room` values:
-    /// the samples of channel `c` begin at `c` times the chunk, the rows that it is made of stand at their places, and
-    /// what is kept of all rows is there as the schedule keeps it.
+    /// Makes row `row` of the next `spectra` spectra, in 32 bits, at its place; each row has a place of `room` values.
+    /// The samples of channel `c` begin at `c * chunk`. The rows that it is made of stand at their places, and of all
+    /// rows is kept what the schedule keeps.
     pub fn fill_row(
         &mut self,
         rows: &Rows,
@@ -197,8 +196,8 @@ impl Stores {
         );
     }
 
-    /// Keeps all rows, which stand at their places of `room` values, for the spectra after these, as the schedule keeps
-    /// them. What is kept is right where the values of rows of 16 bits fit.
+    /// Keeps the last values of all rows, which stand at their places of `room` values, for later spectra, as the
+    /// schedule keeps them. The kept values are right if they fit into the schedule's rows of 16 bits.
     pub fn keep_rows(&mut self, rows: &Rows, schedule: &Schedule, room: usize, spectra: usize)
         requires follows { Follows rows.now schedule.now }
         requires short { spectra ≤ room }
@@ -220,7 +219,7 @@ impl Stores {
         );
     }
 
-    /// So many values of row `row`, which stands at its place of `room` values.
+    /// The first `spectra` values of row `row`, which stands at its place of `room` values.
     pub fn filled(&self, room: usize, row: usize, spectra: usize) -> &[u32]
         requires few { row ≤ 2 ^ 32 }
         requires most { room ≤ 65536 }
@@ -236,14 +235,14 @@ impl Stores {
     }
 }
 
-// So many zeros.
+// `count` zeros.
 fn zeros(alloc: Global, count: usize) -> Result<Vec<u32>, Memory>
     ensures { IfOk result (λ v. v.items ≡ replicate count 0) }
 {
     Ok(vec![in alloc; 0; count]?)
 }
 
-// So many zeros of 16 bits.
+// `count` zeros of 16 bits.
 fn narrow_zeros(alloc: Global, count: usize) -> Result<Vec<u16>, Memory>
     ensures { IfOk result (λ v. v.items ≡ replicate count 0) }
 {

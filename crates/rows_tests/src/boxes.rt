@@ -37,7 +37,7 @@ fn kept_rows_are_summed(rt: HostRuntime) -> Result<(), Memory> {
     Ok(())
 }
 
-// Feeds 16 sums of 50000 where no box of two values reaches a least sum, and says whether it did.
+// Feeds 16 sums of 50000 if no box of two values reaches `least`. Answers whether it did.
 fn is_fed_quietly(boxes: &mut Boxes, least: u32) -> bool
     requires row { KeepsRow boxes.old 1 }
     requires chunk { boxes.old.chunk ≡ 16 }
@@ -80,7 +80,8 @@ fn sum_of_last(values: &[u32], w: usize) -> u32 {
     sum
 }
 
-// Whether the boxes of a width are right, of which the last feed of row `d` has `count`.
+// Whether the boxes of width `w` that end in the last feed of row `d` are right. `all` are the values fed, `count` of
+// them last.
 fn are_right(boxes: &mut Boxes, d: u32, w: u32, all: &[u32], count: usize) -> bool
     requires row { KeepsRow boxes.old d }
     requires few { count ≤ 16 }
@@ -103,7 +104,8 @@ fn are_right(boxes: &mut Boxes, d: u32, w: u32, all: &[u32], count: usize) -> bo
     true
 }
 
-// Whether the boxes of each width are.
+// Whether the boxes of all widths that end in the last feed of row `d` are right. `all` are the values fed, `count` of
+// them last.
 fn are_all_right(boxes: &mut Boxes, d: u32, all: &[u32], count: usize) -> bool
     requires row { KeepsRow boxes.old d }
     requires few { count ≤ 16 }
@@ -120,7 +122,7 @@ fn are_all_right(boxes: &mut Boxes, d: u32, all: &[u32], count: usize) -> bool
         && are_right(boxes, d, 32, all, count)
 }
 
-// Whether the boxes of a row that is fed in pieces are right after each.
+// Whether the boxes of a row that is fed in pieces are right after each piece.
 fn are_fed(alloc: Global) -> Result<bool, Memory> {
     let mut boxes = Boxes::open(alloc, 3, 5, 16, 32, 1000)?;
     let mut all = Vec::new(alloc);

@@ -5,7 +5,7 @@ use psr_base::Memory;
 use std::alloc::Global;
 use subband_plan::Node;
 
-/// So many samples of each channel, the highest first.
+/// Samples: `spectra` of each channel, channel by channel from the highest frequency down.
 #[derive(Drop)]
 pub struct Stream {
     pub spectra: usize,
@@ -13,7 +13,7 @@ pub struct Stream {
 }
 
 impl Stream {
-    /// Numbers that look random.
+    /// A stream of samples that look random.
     pub fn new(alloc: Global, channels: usize, spectra: usize) -> Result<Stream, Memory> {
         let mut samples = Vec::new(alloc);
         let mut state: u32 = 13;
@@ -24,7 +24,7 @@ impl Stream {
         Ok(Stream { spectra, samples })
     }
 
-    /// A sample; 0 before the first and after the last spectrum.
+    /// The sample of a channel in spectrum `t`; 0 before the first and after the last spectrum.
     pub fn at(&self, channel: usize, t: usize) -> u32 {
         if t >= self.spectra {
             return 0;
@@ -57,7 +57,8 @@ pub fn delays_of(alloc: Global, edges: &[u32], node: Node, d: u32) -> Result<Vec
     Ok(delays)
 }
 
-/// Of a delay between two edges, the part above the edge between them: by the squares of the wavelengths, rounded.
+/// The part above the edge `mid` of a delay between the edges `lo` and `hi`: by the squares of the wavelengths,
+/// rounded.
 fn split(edges: &[u32], lo: usize, mid: usize, hi: usize, d: u32) -> u32 {
     let square = |k: usize| {
         let edge = u128::from(edges.get(k).copied().unwrap_or(0));
@@ -71,7 +72,8 @@ fn split(edges: &[u32], lo: usize, mid: usize, hi: usize, d: u32) -> u32 {
     u32::try_from(share.unwrap_or(0)).unwrap_or(0)
 }
 
-/// The delay at edge `k` on the path of delay `d` over a node, which begins at 0: the node is halved down to it.
+/// The delay at edge `k` on the path of delay `d` over a node. It is 0 at the node's first edge. The node is halved
+/// down to the edge.
 fn entry(edges: &[u32], node: Node, d: u32, k: usize) -> u32 {
     let (mut lo, mut hi) = (node.lo as usize, node.hi as usize);
     let (mut start, mut d) = (0_u32, d);

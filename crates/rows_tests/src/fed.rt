@@ -11,10 +11,10 @@ use psr_base::Memory;
 use std::alloc::Global;
 use subband_plan::{Node, Plan};
 
-/// More spectra are not taken.
+/// No more spectra than this are taken.
 const MOST: u64 = 1 << 40;
 
-/// What is fed: so many channels, delays from `first` to `last`, calls of up to `chunk` spectra.
+/// What is fed: a band of `channels` channels, delays from `first` to `last`, and calls of at most `chunk` spectra.
 #[derive(Clone, Copy, Debug)]
 pub struct Shape {
     pub channels: u32,
@@ -24,7 +24,7 @@ pub struct Shape {
 }
 
 impl Shape {
-    /// Whether there may be such a band, delays and calls.
+    /// Whether a carry can be opened for this band and these delays and calls.
     pub fn may_be(self) -> bool
         ensures { result ≡ true → IsShape self.channels self.first self.last self.chunk }
     {
@@ -37,7 +37,7 @@ impl Shape {
     }
 }
 
-/// A carry, and what it is to give.
+/// A carry, and the stream whose sums it must make.
 #[derive(Drop)]
 pub struct Fed {
     carry: Carry,
@@ -54,7 +54,7 @@ struct Direct {
 }
 
 impl Direct {
-    // How many of the sums over a node that end at spectrum `start` and after it are not those of a row.
+    // How many values of a row are wrong. They must be the sums over a node that end at spectrum `start` and after it.
     fn wrong(
         &self,
         alloc: Global,
@@ -76,7 +76,7 @@ impl Direct {
 }
 
 impl Fed {
-    /// Nothing is fed yet.
+    /// A new carry and its stream. Nothing is fed yet.
     pub fn new(alloc: Global, shape: Shape, spectra: usize) -> Result<Fed, Memory>
         requires { IsShape shape.channels shape.first shape.last shape.chunk }
     {
@@ -91,8 +91,8 @@ impl Fed {
         })
     }
 
-    /// Feeds or passes the next spectra, as bytes or as words, and answers how many sums that are made are not the
-    /// direct ones.
+    /// Takes the next `count` spectra, as bytes or as 32-bit values, with the rows of all nodes if `whole`, otherwise
+    /// by a pass. Answers how many of the sums made are wrong.
     pub fn check(
         &mut self,
         alloc: Global,
@@ -125,7 +125,7 @@ impl Fed {
         self.wrong_in_tables(alloc, count)
     }
 
-    // The next spectra; what is past them counts for nothing.
+    // The samples of the next spectra. The places past them have a number that no sum may contain.
     fn rows(&self, alloc: Global, count: u32) -> Result<Vec<u32>, Memory>
         ensures { IfOk result (λ rows. length rows.items
             ≡ self.now.shape.channels * self.now.shape.chunk) }
@@ -145,7 +145,7 @@ impl Fed {
         Ok(rows)
     }
 
-    // How many sums of the tables of all nodes are wrong; all are, where they don't stand.
+    // How many sums in the rows of all nodes are wrong. If these can't be read, all are.
     fn wrong_in_tables(&self, alloc: Global, count: u32) -> Result<u64, Memory> {
         let start = self.carry.fed().wrapping_sub(u64::from(count)) as usize;
         let mut wrong = u64::from(!self.carry.has_tables());
@@ -168,7 +168,7 @@ impl Fed {
     }
 }
 
-// Passes the next spectra, and answers how many sums of the whole band are not the direct ones.
+// Takes the next spectra by a pass, and answers how many sums of the whole band are wrong.
 fn pass(
     alloc: Global,
     carry: &mut Carry,
@@ -206,7 +206,7 @@ fn both(one: Result<u64, Memory>, other: Result<u64, Memory>) -> Result<u64, Mem
     Ok(one?.wrapping_add(other?))
 }
 
-/// A row of a node's table; nothing where it does not stand.
+/// A row of a node, or an empty one if it can't be read.
 pub fn table_of(carry: &Carry, k: usize, d: u32) -> &[u32] {
     if !carry.has_tables() || k >= carry.plan().nodes() {
         return &[];
@@ -218,7 +218,7 @@ pub fn table_of(carry: &Carry, k: usize, d: u32) -> &[u32] {
     carry.table(k, d)
 }
 
-// The last eight bits of each value, which are all of a sample.
+// The last eight bits of each value: the whole of a sample.
 fn bytes_of(alloc: Global, rows: &[u32]) -> Result<Vec<u8>, Memory>
     ensures { IfOk result (λ bytes. length bytes.items ≡ length rows.now) }
 {
@@ -229,7 +229,7 @@ fn bytes_of(alloc: Global, rows: &[u32]) -> Result<Vec<u8>, Memory>
     Ok(bytes)
 }
 
-// Edges that fall by 250 kHz down to 15 MHz.
+// Edges in kHz that fall by 250 kHz each, down to 15 MHz.
 fn edges_of(alloc: Global, channels: u32) -> Result<Vec<u32>, Memory>
     requires some { 2 ≤ channels }
     requires most { channels ≤ 4096 }

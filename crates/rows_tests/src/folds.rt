@@ -1,4 +1,4 @@
-// Folds, by the sum of the definition and by halves.
+// Folds by halves, against the fold sums of the definition.
 ghost use Rattle.std.specs.Prelude.{◌≡◌, ◌*◌, ◌^◌, ◌<◌, ◌≤◌, length};
 ghost use Rattle.std.specs.List.{All};
 ghost use Rattle.fast_fold.specs.Folding.{IsAt};
@@ -47,7 +47,7 @@ fn two_rows_are_folded(rt: HostRuntime) -> Result<(), Memory> {
     Ok(())
 }
 
-// Whether a profile has the sums of the definition; at level 0 whether it is the row itself.
+// Whether a profile has the fold sums of the definition; at level 0 whether it is the row itself.
 fn is_profile(profile: &[u32], rows: &[u32], level: u32, trial: u32) -> bool
     requires short { length profile.now < 2 ^ 32 }
     requires some { 0 < length profile.now }
@@ -68,7 +68,7 @@ fn is_profile(profile: &[u32], rows: &[u32], level: u32, trial: u32) -> bool
     true
 }
 
-// Whether all profiles of a level have.
+// Whether all profiles of a level have the fold sums of the definition.
 fn is_level(folder: &Folder, series: &[u32], p: u32, m: u32, level: u32) -> bool
     requires at { IsAt folder.now p m level }
     requires phases { 1 ≤ p }
@@ -94,7 +94,7 @@ fn is_level(folder: &Folder, series: &[u32], p: u32, m: u32, level: u32) -> bool
     true
 }
 
-// Whether all levels of a period have.
+// Whether all profiles of all levels of a period have the fold sums of the definition.
 fn are_levels(alloc: Global, series: &[u32], p: u32, m: u32) -> Result<bool, Memory>
     requires phases { 1 ≤ p }
     requires short { p ≤ 40 }
@@ -125,7 +125,7 @@ fn levels_are_folds(rt: HostRuntime) -> Result<(), Memory> {
     Ok(())
 }
 
-// The greatest sum of all profiles of a period that was folded whole.
+// The greatest sum of all profiles of a period that was folded completely.
 fn greatest_of(folder: &Folder, p: u32, m: u32) -> u32
     requires at { IsAt folder.now p m m }
     requires phases { 1 ≤ p }
@@ -139,7 +139,7 @@ fn greatest_of(folder: &Folder, p: u32, m: u32) -> u32
     most
 }
 
-// Whether the greatest sum of what values have above a base is that of the profiles of these differences.
+// Whether the greatest sum above a base is the greatest of the profiles of the values less that base.
 fn is_greatest(alloc: Global, series: &[u32], base: u32, p: u32, m: u32) -> Result<bool, Memory>
     requires phases { 1 ≤ p }
     requires short { p ≤ 1000 }

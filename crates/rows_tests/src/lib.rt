@@ -1,6 +1,6 @@
 //! Tests of rows: how they are planned, unpacked and carried chunk by chunk, by worked values and all sums against
-//! direct ones; their sums, folds and boxes. There is nothing else here: a crate with tests is proved twice, so those
-//! that cross crates stand together.
+//! direct ones; their sums, folds and boxes. A crate with tests is proved twice, so the tests of several crates stand
+//! together in one that has nothing else.
 #![tactic(auto)]
 
 #[cfg(test)]

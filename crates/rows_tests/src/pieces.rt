@@ -4,8 +4,8 @@ ghost use Rattle.std.specs.Prelude.{◌≡◌, ◌<◌, ◌≤◌, ◌⊎◌, Is
 use spectra_rows::Unpacker;
 use std::alloc::{AllocError, Global};
 
-// A shape on each line: the channels, the order of their frequencies, the bits and the polarisations of a sample, the
-// spectra of a chunk, and what the rows are made of.
+// On each line a shape: the channels, the order of their frequencies, the bits and the polarisations of a sample, the
+// spectra of a chunk, and the width of a sample in the rows.
 const SHAPES: &str = "37 falling 8 1 20 words
 37 rising 8 1 3 words
 70 rising 8 1 37 words
@@ -23,7 +23,7 @@ const SHAPES: &str = "37 falling 8 1 20 words
 2 falling 8 1 50 bytes
 2 rising 8 1 1 bytes";
 
-// What is unpacked.
+// A shape: what is unpacked.
 #[derive(Clone, Copy, Drop)]
 struct Shape {
     channels: u32,
@@ -54,7 +54,7 @@ impl Shape {
         })
     }
 
-    // Whether an unpacker can be opened for it.
+    // Whether an unpacker can be opened for the shape.
     fn is_allowed(self) -> bool
         ensures some_channels { IsTrue result → 2 ≤ self.channels }
         ensures most_channels { IsTrue result → self.channels ≤ 4096 }
@@ -93,7 +93,7 @@ impl Shape {
     }
 }
 
-// So many bytes.
+// `count` bytes.
 fn bytes_of(alloc: Global, count: usize) -> Result<Vec<u8>, AllocError> {
     let mut state = 17_u32;
     let mut bytes = Vec::new(alloc);
@@ -134,7 +134,7 @@ fn sample(bytes: &[u8], shape: Shape, channel: usize, spectrum: usize) -> u32 {
     sum
 }
 
-// A value of the rows, if they have so many.
+// The value at a place of the rows, or `None` past their end.
 fn value_at(unpacker: &Unpacker, at: usize) -> Option<u32> {
     if unpacker.in_bytes() {
         let value = *unpacker.byte_rows().get(at)?;
@@ -144,7 +144,7 @@ fn value_at(unpacker: &Unpacker, at: usize) -> Option<u32> {
     }
 }
 
-// Whether the rows are the samples of the spectra from `gone` on, and 0 for a silent channel.
+// Whether the rows have the samples of the spectra from `gone` on, and 0 in the channel `silent`.
 fn are_rows(
     unpacker: &Unpacker,
     shape: Shape,
@@ -183,8 +183,8 @@ fn is_silenced(
     are_rows(unpacker, shape, bytes, gone, Some(channel as usize))
 }
 
-// Pushes pieces of up to 2800 bytes, and now and then silences a channel and takes what is whole: whether the rows are
-// right after each.
+// Pushes pieces of at most 2800 bytes; now and then silences a channel and gives up the complete spectra. Answers
+// whether the rows are right after each piece.
 fn are_unpacked(unpacker: &mut Unpacker, shape: Shape, bytes: &[u8]) -> bool
     requires some { 2 ≤ shape.channels }
     requires channels { unpacker.old.channels ≡ shape.channels }
@@ -210,7 +210,7 @@ fn are_unpacked(unpacker: &mut Unpacker, shape: Shape, bytes: &[u8]) -> bool
     true
 }
 
-// Whether the shape of a line is unpacked so.
+// Whether the bytes are unpacked into the right rows for the shape of a line.
 fn is_met(alloc: Global, line: &str, bytes: &[u8]) -> bool {
     let Some(shape) = Shape::of(line) else {
         return false;

@@ -10,9 +10,9 @@ const TWO: [u32; 3] = [1_500_000, 1_400_000, 1_300_000];
 
 const THREE: [u32; 4] = [1_600_000, 1_500_000, 1_400_000, 1_300_000];
 
-// Of each plan its channels and delays; the rows of its nodes, and their values with tails in chunks of 10 spectra;
-// the nodes: channels, delays, tail, the number of the first row that is kept; and the rows that are kept: node and
-// delay, what they are made of, and how much is kept of them.
+// Of each plan: its channels and delays; the number of rows of its nodes, and of their values with tails in chunks of
+// 10 spectra; the nodes, each with its channels, delays, tail, and the number of its first row; and the rows of
+// `PlanRows`, each with its node and delay, what it is made of, and how much of it is kept.
 const PLANS: &str = "
 2 0 1 | 5 51 | 0-2 0-1 0 0; 0-1 0-0 1 2; 1-2 0-1 0 3; \
     | 0/0 2+3@0 16; 0/1 0+3@1 0; 1/0 c0 0; 2/0 c1 16; 2/1 3+3@1 0;
@@ -25,7 +25,7 @@ const PLANS: &str = "
     3/0 c1 16; 3/1 9+9@1 0; 3/2 9+10@2 0; 4/0 c2 16; 4/1 12+12@1 0; 4/2 12+13@2 0;
 ";
 
-// The fields of a line, which `|` parts. Those that it doesn't have are empty.
+// The fields of a line, with `|` between them. Missing ones are empty.
 fn fields_of(line: &'static str) -> [&'static str; 4] {
     let mut fields = [""; 4];
     for (i, field) in line.split('|').enumerate() {
@@ -46,7 +46,7 @@ fn plan_of(alloc: Global, setting: &'static str) -> Result<Plan, Fail> {
     Ok(plan)
 }
 
-// The nodes of a plan as a line has them.
+// The nodes of a plan in the form of a line.
 fn nodes_of(alloc: Global, plan: &Plan, rows: &PlanRows) -> Result<String, AllocError>
     requires { ArePlanRows plan.now rows.now }
 {
@@ -71,7 +71,7 @@ fn source_of(alloc: Global, source: Source) -> Result<String, AllocError> {
     }
 }
 
-// The rows of a plan as a line has them.
+// The rows of a plan in the form of a line.
 fn rows_of(alloc: Global, plan: &Plan, rows: &PlanRows) -> Result<String, AllocError>
     requires { ArePlanRows plan.now rows.now }
 {
@@ -87,7 +87,7 @@ fn rows_of(alloc: Global, plan: &Plan, rows: &PlanRows) -> Result<String, AllocE
     Ok(text)
 }
 
-// Whether the plan of a line is as it says.
+// Whether the plan of a line has the values of the line.
 fn is_planned(alloc: Global, line: &'static str) -> Result<bool, Fail> {
     let [setting, counts, nodes, wanted, ..] = fields_of(line);
     let plan = plan_of(alloc, setting)?;

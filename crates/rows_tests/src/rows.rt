@@ -9,7 +9,7 @@ use fdmt_rows::{
 use psr_base::Memory;
 use std::alloc::Global;
 
-// Whether these are the sums of two rows.
+// Whether `sum` is the sum of two rows.
 fn are_sums(sum: &[u32], a: &[u32], b: &[u32]) -> bool
     requires first { length a.now ≡ length sum.now }
     requires second { length b.now ≡ length sum.now }
@@ -22,7 +22,7 @@ fn are_sums(sum: &[u32], a: &[u32], b: &[u32]) -> bool
     true
 }
 
-// Whether two rows are added, and a row to another.
+// Whether two rows are added right, in place and into a third one.
 fn are_added(alloc: Global, count: usize) -> Result<bool, Memory> {
     let a = values(alloc, count, 0x7fff_ffff, 1)?;
     let b = values(alloc, count, 0x7fff_ffff, 2)?;
@@ -36,7 +36,7 @@ fn are_added(alloc: Global, count: usize) -> Result<bool, Memory> {
     )
 }
 
-// Whether the greatest value is found.
+// Whether the greatest value of a row is found.
 fn is_found(alloc: Global, count: usize) -> Result<bool, Memory> {
     let row = values(alloc, count, 1000, 5)?;
     let mut most = 0;
@@ -46,7 +46,7 @@ fn is_found(alloc: Global, count: usize) -> Result<bool, Memory> {
     Ok(greatest(row.as_slice()) == most)
 }
 
-// Whether these are the bytes.
+// Whether a row has the values of the bytes.
 fn are_bytes(row: &[u32], bytes: &[u8]) -> bool
     requires { length row.now ≡ length bytes.now }
 {
@@ -58,7 +58,7 @@ fn are_bytes(row: &[u32], bytes: &[u8]) -> bool
     true
 }
 
-// Whether bytes are widened.
+// Whether bytes are widened right.
 fn are_widened(alloc: Global, count: usize) -> Result<bool, Memory> {
     let bytes = bytes(alloc, count)?;
     let mut out = values(alloc, count, 9, 3)?;
@@ -66,7 +66,7 @@ fn are_widened(alloc: Global, count: usize) -> Result<bool, Memory> {
     Ok(are_bytes(out.as_slice(), bytes.as_slice()))
 }
 
-// Whether rows of both widths are copied and added.
+// Whether rows of both widths are copied and added right.
 fn are_mixed(alloc: Global, count: usize) -> Result<bool, Memory> {
     let a = values(alloc, count, 0x7fff_ffff, 1)?;
     let b = values(alloc, count, 0xffff, 2)?;
@@ -81,7 +81,7 @@ fn are_mixed(alloc: Global, count: usize) -> Result<bool, Memory> {
     Ok(are_sums(out.as_slice(), a.as_slice(), b.as_slice()))
 }
 
-// Whether these are sums of neighbours.
+// Whether `sums` are the running sums of a row.
 fn are_running(sums: &[u32], x: &[u32]) -> bool
     requires { length sums.now ≤ length x.now }
 {
@@ -98,7 +98,7 @@ fn are_running(sums: &[u32], x: &[u32]) -> bool
     true
 }
 
-// Whether so many neighbours more than one are added.
+// Whether running sums of `later + 1` values are right.
 fn are_neighbours_added(alloc: Global, count: usize, later: usize) -> Result<bool, Memory>
     requires few { count ≤ 100 }
     requires more { later ≤ 100 }

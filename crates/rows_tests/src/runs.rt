@@ -6,9 +6,10 @@ use crate::fed::{Fed, Shape};
 use psr_base::Memory;
 use std::alloc::Global;
 
-// Of each run the channels, the least and the greatest delay, and the most spectra of a call; then the calls with their
-// spectra: f feeds words and F bytes, p passes words and P bytes. Rows of 16 bits and of 32 are made, and nodes of two
-// and three channels at depths above and below those of tables.
+// Of each run: the number of channels, the smallest and the greatest delay, and the maximum number of spectra of a
+// call; then the calls, each with its spectra: f feeds 32-bit values and F bytes, p passes 32-bit values and P bytes.
+// They make rows of 16 and of 32 bits, and nodes of two and three channels at depths above and below those that have a
+// slot for each row.
 const RUNS: [&str; 9] = [
     "37 5 90 64 f1 F7 p64 f1 P1 p7 f64 p0 F7 P7 p64 F1 f7 P5 f64",
     "2 0 3 2 f2 P2 F2 p2",
@@ -21,7 +22,7 @@ const RUNS: [&str; 9] = [
     "4096 0 1 1 P1 f1 p1",
 ];
 
-// How many spectra there are samples of; those after them are 0.
+// The stream has samples of this many spectra; later ones are 0.
 const SPECTRA: usize = 300;
 
 fn number_of(word: Option<&str>) -> Option<u32> {
@@ -43,7 +44,7 @@ fn shape_of(line: &str) -> Option<Shape>
     if shape.may_be() { Some(shape) } else { None }
 }
 
-// How many sums a call makes that are wrong.
+// How many sums of a call are wrong.
 fn call(alloc: Global, fed: &mut Fed, word: &str) -> Result<Option<u64>, Memory> {
     let Some((way, count)) = word.split_at_checked(1) else {
         return Ok(None);
@@ -56,7 +57,7 @@ fn call(alloc: Global, fed: &mut Fed, word: &str) -> Result<Option<u64>, Memory>
     Ok(Some(fed.check(alloc, count, whole, in_bytes)?))
 }
 
-// How many sums the calls of a line make that are wrong; nothing where its words are no calls.
+// How many sums of the calls of a line are wrong, or `None` if the line has anything but calls.
 fn run_calls(alloc: Global, fed: &mut Fed, line: &str) -> Result<Option<u64>, Memory> {
     let mut wrong: u64 = 0;
     for word in line.split(' ').skip(4) {
@@ -68,7 +69,7 @@ fn run_calls(alloc: Global, fed: &mut Fed, line: &str) -> Result<Option<u64>, Me
     Ok(Some(wrong))
 }
 
-// How many sums a run makes that are wrong; nothing where its line is no run.
+// How many sums of a run are wrong, or `None` if the line is no run.
 fn run(alloc: Global, line: &str) -> Result<Option<u64>, Memory> {
     let Some(shape) = shape_of(line) else {
         return Ok(None);

@@ -1,10 +1,10 @@
-// Few bytes, of which the rows are plain to see.
+// A few bytes whose rows are plain to see.
 ghost use Rattle.spectra_rows.specs.Unpacking.{OpenedAlike};
 
 use psr_base::Memory;
 use spectra_rows::Unpacker;
 
-// Whether so many bytes of these are taken, after which so many spectra are whole.
+// Whether `push` takes the first `taken` of these bytes, after which `spectra` spectra are complete.
 fn takes(unpacker: &mut Unpacker, bytes: &[u8], taken: usize, spectra: u32) -> bool
     ensures { OpenedAlike unpacker.new unpacker.old }
 {

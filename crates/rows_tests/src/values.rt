@@ -5,7 +5,7 @@ ghost use Rattle.std.specs.List.{All};
 use psr_base::Memory;
 use std::alloc::Global;
 
-/// So many values up to `most`, another list for each seed.
+/// `count` values up to `most`, another list for each seed.
 pub fn values(alloc: Global, count: usize, most: u32, seed: u32) -> Result<Vec<u32>, Memory>
     requires { most < 2 ^ 31 }
     ensures long { IfOk result (λ v. vec_len v ≡ count) }
@@ -21,7 +21,7 @@ pub fn values(alloc: Global, count: usize, most: u32, seed: u32) -> Result<Vec<u
     Ok(values)
 }
 
-/// So many bytes.
+/// `count` bytes.
 pub fn bytes(alloc: Global, count: usize) -> Result<Vec<u8>, Memory>
     ensures { IfOk result (λ v. vec_len v ≡ count) }
 {

@@ -5,12 +5,12 @@ use psr_base::Memory;
 use std::alloc::Global;
 use subband_plan::Plan;
 
-// Whether a row of a node's table has these sums.
+// Whether a row of a node has these sums.
 fn has(carry: &Carry, k: usize, d: u32, sums: &[u32]) -> bool {
     table_of(carry, k, d) == sums
 }
 
-// Whether tables of two channels are fed, passed and fed again as worked.
+// Whether the rows of two channels are fed, passed and fed again as worked.
 fn are_carried(alloc: Global) -> Result<bool, Memory> {
     let edges = [1_500_000, 1_400_000, 1_300_000];
     let plan = Plan::open(alloc, &edges, 0, 1)?;
@@ -65,8 +65,8 @@ fn samples_that_16_bits_do_not_hold(rt: HostRuntime) -> Result<(), Memory> {
     Ok(())
 }
 
-// Whether the row of a delay over four channels is left out where no sum of it reaches a least one, and made where one
-// does.
+// Whether the row of a delay over four channels is left out if all its sums are below a threshold, and made if one
+// reaches it.
 fn is_left_out(alloc: Global) -> Result<bool, Memory> {
     let edges = [1_500_000, 1_400_000, 1_300_000, 1_200_000, 1_100_000];
     let plan = Plan::open(alloc, &edges, 0, 1)?;
@@ -90,7 +90,7 @@ fn a_row_that_reaches_no_least_sum(rt: HostRuntime) -> Result<(), Memory> {
     Ok(())
 }
 
-// Whether the row of a delay over four channels has the sums of its halves, and the next one is made without it.
+// Whether the row of a delay over four channels is the sum of its halves, and the next row is made without it.
 fn are_halves(alloc: Global) -> Result<bool, Memory> {
     let edges = [1_500_000, 1_400_000, 1_300_000, 1_200_000, 1_100_000];
     let plan = Plan::open(alloc, &edges, 0, 1)?;

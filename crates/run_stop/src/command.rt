@@ -1,4 +1,4 @@
-// The words of the command line, or how a program ends without them.
+// The arguments of the command line, or how a program ends without them.
 ghost use Rattle.std.specs.Prelude.{◌≡◌, ◌≢◌, ◌↔◌, ◌⊎◌, Err, IfErr, IfOk, IsErrAnd, IsOkAnd};
 ghost use Rattle.std.specs.Vec.Iter.{into_iter_items};
 ghost use Rattle.std.specs.IoError.{error_kind};
@@ -13,8 +13,8 @@ use std::env::Args;
 use std::io;
 use std::io::ErrorKind;
 
-/// The words that a program was started with, its name first. If the system gives none, a line to the notes says why,
-/// and the exit status is answered: that of refused arguments, for instance if one isn't UTF-8, or that of want of
+/// The arguments that a program was started with, its name first. If the system gives none, a line to the notes says
+/// why, and the exit status is answered: that of refused arguments, for instance if one isn't UTF-8, or that of want of
 /// memory. A fault of the notes changes nothing.
 pub fn words_or_status<E: Sink>(
     args: io::Result<Args>,

@@ -1,11 +1,11 @@
 //! What a run is for.
 use search_model::Search;
 
-/// What a run is for.
+/// The purpose of a run.
 #[derive(Clone, Copy, Debug, PartialEq)]
 pub enum Purpose {
-    /// To search files by this search, and also to record them if the settings of the run ask for it.
+    /// Search files by this search. The settings of the run may ask to record them too.
     Search(Search),
-    /// To record files and search nothing: the settings of the run ask for that.
+    /// Record files, as the settings of the run ask, and search nothing.
     Record,
 }

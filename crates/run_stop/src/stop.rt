@@ -9,7 +9,7 @@ use disk_feeder::HeaderCause;
 use search_words::Opt;
 use text_line::Line;
 
-/// Why a run ended without all that it was asked for. Files count from 0 over all transfers.
+/// Why a run ended before it did all that was asked. Files count from 0 over all transfers.
 #[derive(Clone, Copy, Debug, PartialEq, Eq)]
 pub enum Stop {
     /// The arguments are refused.
@@ -88,7 +88,7 @@ fn many_line(count: u64, limit: u32) -> Line
     line
 }
 
-// A line of words alone.
+// A line without numbers.
 fn plain_line(text: &str) -> Line
     requires { length text.now ≤ 64 }
     ensures { result ≡ text.now }

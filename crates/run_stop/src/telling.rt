@@ -11,7 +11,7 @@ use crate::stop::Stop;
 use psr_base::{Sink, write_all};
 use text_line::Line;
 
-/// Writes a line to the notes. A fault of theirs changes nothing: they have taken a front of the line.
+/// Writes a line to the notes. A fault of the notes changes nothing: they have taken a beginning of the line.
 pub fn tell_line<E: Sink>(line: &Line, notes: &mut E)
     ensures { Noted line.now (E.seen notes.old) (E.seen notes.new) }
 {

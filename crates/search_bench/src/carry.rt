@@ -1,5 +1,5 @@
-//! Takes spectra into tables of 1024 channels and delays from 0 to 1024 spectra, chunk by chunk. The samples are bytes
-//! that look random, the same in each chunk.
+//! Measures the rows of all nodes and passes, over 1024 channels and delays from 0 to 1024 spectra, chunk by chunk. The
+//! samples are bytes that look random, the same in each chunk.
 
 ghost use Rattle.std.specs.Prelude.{◌≡◌, ◌+◌, ◌*◌, ◌^◌, ◌<◌, ◌≤◌, length, IfOk};
 ghost use Rattle.dada_model.specs.Edges.{AreEdges};
@@ -13,23 +13,23 @@ use std::rt::Clock;
 use std::time::Instant;
 use subband_plan::Plan;
 
-// How many channels there are, in 400 MHz below 1582 MHz.
+// The number of channels. They share 400 MHz below 1582 MHz.
 const CHANNELS: u32 = 1024;
 
-// The longest delay.
+// The longest delay, in spectra.
 const LAST: u32 = 1024;
 
-// More spectra are not taken.
+// No more spectra than this are taken.
 const MOST: u64 = 1 << 40;
 
-/// How spectra are taken: with the tables of all nodes, or by a pass.
+/// How spectra are taken: with the rows of all nodes, or by a pass.
 #[derive(Clone, Copy, PartialEq, Eq, Debug)]
 pub enum Way {
     Feed,
     Pass,
 }
 
-/// A chunk of so many spectra, taken so often.
+/// A chunk of `chunk` spectra, taken `times` times.
 #[derive(Clone, Copy, Debug)]
 pub struct Work {
     pub way: Way,
@@ -37,7 +37,7 @@ pub struct Work {
     pub times: u32,
 }
 
-/// What the words WAY CHUNK TIMES ask for, if they are such words.
+/// The work of the arguments WAY CHUNK TIMES, or `None` if they are not of this form.
 pub fn work_of(words: &[String]) -> Option<Work> {
     let [way, chunk, times] = words else {
         return None;
@@ -53,8 +53,8 @@ pub fn work_of(words: &[String]) -> Option<Work> {
     })
 }
 
-/// Does the work, and prints a sum that it made; where it is timed, also how many bytes the rows need, and how long the
-/// work took with all memory at hand.
+/// Does the work, and prints a sum that it made. If `timed`, also prints how many bytes the rows need, and how long the
+/// work took once all memory was taken.
 pub fn show<R: AllocGlobal + Print + Clock>(rt: &R, work: Work, timed: bool) -> io::Result<()> {
     match Bench::open(rt.alloc(), work) {
         Ok(mut bench) => bench.show(rt, timed),
@@ -62,7 +62,7 @@ pub fn show<R: AllocGlobal + Print + Clock>(rt: &R, work: Work, timed: bool) -> 
     }
 }
 
-// Tables, with a chunk of samples.
+// A carry, with a chunk of samples.
 #[derive(Drop)]
 struct Bench {
     carry: Carry,
@@ -88,7 +88,7 @@ impl Bench {
         })
     }
 
-    // Does the work, and prints a sum that it made, and the time and the space where that is asked for.
+    // Does the work, and prints a sum that it made; if `timed`, also the time and the memory.
     fn show<R: Print + Clock>(&mut self, rt: &R, timed: bool) -> io::Result<()> {
         let start = Instant::now(rt)?;
         let sum = self.run();
@@ -101,7 +101,7 @@ impl Bench {
         Ok(())
     }
 
-    // Takes the chunk as often as it is asked for, and gives a sum of sums.
+    // Takes the chunk as often as asked, and answers a sum of sums.
     fn run(&mut self) -> u32 {
         let mut sum = 0_u32;
         for _ in 0..self.work.times {
@@ -122,13 +122,13 @@ impl Bench {
         }
     }
 
-    // How many bytes all rows need, with the tails that a plan says.
+    // How many bytes all rows need, with their tails, by the plan.
     fn need(&self) -> u64 {
         self.carry.plan().words(self.work.chunk).wrapping_mul(4)
     }
 }
 
-// Takes a chunk, with the tables of all nodes, and gives the first sum of the longest delay.
+// Takes a chunk with the rows of all nodes, and answers the first sum of the longest delay.
 fn feed(carry: &mut Carry, samples: &[u8], chunk: u32) -> u32
     requires ready { IsReady carry.old chunk (length samples.now) }
     requires few { carry.old.fed < 2 ^ 40 }
@@ -138,7 +138,7 @@ fn feed(carry: &mut Carry, samples: &[u8], chunk: u32) -> u32
     carry.sum(LAST, 0)
 }
 
-// The same by a pass.
+// Takes a chunk by a pass, and answers the first sum of the longest delay.
 fn pass(carry: &mut Carry, samples: &[u8], chunk: u32) -> u32
     requires ready { IsReady carry.old chunk (length samples.now) }
     requires few { carry.old.fed < 2 ^ 40 }
@@ -165,7 +165,7 @@ fn make_edges(alloc: Global) -> Result<Vec<u32>, Memory>
     Ok(edges)
 }
 
-// Tables that were fed nothing.
+// A carry that was fed nothing.
 fn open_carry(alloc: Global, chunk: u32) -> Result<Carry, Memory>
     requires some { 1 ≤ chunk }
     requires most { chunk ≤ 65536 }
@@ -176,7 +176,7 @@ fn open_carry(alloc: Global, chunk: u32) -> Result<Carry, Memory>
     Carry::open(alloc, plan, chunk, 255)
 }
 
-// So many samples that look random.
+// `count` samples that look random.
 fn make_samples(alloc: Global, count: usize) -> Result<Vec<u8>, Memory>
     ensures { IfOk result (λ samples. length samples.items ≡ count) }
 {

@@ -1,4 +1,4 @@
-//! Searches spectra of 1024 channels that look like noise, delays of 0 to 1024.
+//! Measures searches of 1024 channels that look like noise, with delays from 0 to 1024 spectra.
 
 ghost use Rattle.std.specs.Prelude.{◌≡◌, ◌≤◌, ◌^◌, false, length, IfOk, vec_len};
 ghost use Rattle.search_model.specs.Search.{SettingsInRange};
@@ -24,20 +24,24 @@ BW -400
 OBS_OFFSET 0
 ";
 
-// How many spectra are made. They are fed again and again.
+// The number of spectra that are made. They are fed again and again.
 const MADE: usize = 256;
 
-/// So many spectra, searched in chunks of up to so many, with boxes of up to `widest` path sums and folds of the
-/// periods from 2 up to `periods`.
+/// A search.
 #[derive(Clone, Copy)]
 pub struct Work {
+    /// How many spectra are searched.
     pub spectra: u32,
+    /// The widest box, in path sums.
     pub widest: u32,
+    /// The longest period that is folded; the shortest is 2.
     pub periods: u32,
+    /// The maximum number of spectra of a chunk.
     pub chunk: u32,
 }
 
-/// What the words SPECTRA WIDEST PERIODS CHUNK ask for, if they are such words. With no CHUNK it is 256.
+/// The work of the arguments SPECTRA WIDEST PERIODS CHUNK, or `None` if they are not of this form. CHUNK is 256 by
+/// default.
 pub fn work_of(words: &[String]) -> Option<Work> {
     let (spectra, widest, periods, chunk) = match words {
         [spectra, widest, periods] => (spectra, widest, periods, 256),
@@ -57,7 +61,7 @@ pub fn work_of(words: &[String]) -> Option<Work> {
     })
 }
 
-/// Does the work, and prints what was found, and how long it took where it is timed.
+/// Does the work, and prints what was found; if `timed`, also how long it took.
 pub fn show<R: AllocGlobal + Print + Clock>(rt: &R, work: Work, timed: bool) -> io::Result<()> {
     let start = Instant::now(rt)?;
     let wanted = settings(work);
@@ -78,14 +82,14 @@ pub fn show<R: AllocGlobal + Print + Clock>(rt: &R, work: Work, timed: bool) -> 
     Ok(())
 }
 
-// What a search of so many spectra found.
+// The number of candidates that a search found, and of spectra that it searched.
 #[derive(Clone, Copy)]
 struct Found {
     candidates: u64,
     spectra: u64,
 }
 
-// Samples with a mean of 16.5 and a deviation of 2.87.
+// Samples with a mean of 16.5 and a standard deviation of 2.87.
 fn noise(alloc: Global, count: usize) -> Result<Vec<u8>, Memory>
     ensures { IfOk result (λ v. vec_len v ≡ count) }
 {
@@ -123,7 +127,7 @@ fn settings(work: Work) -> Search {
     }
 }
 
-// Feeds the made spectra until so many were fed.
+// Feeds the samples again and again until `spectra` spectra were fed.
 fn feed(engine: &mut Engine, samples: &[u8], spectra: u32)
     requires running { engine.old.has_ended ≡ false }
     requires fresh { engine.old.fed ≡ 0 }

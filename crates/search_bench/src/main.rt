@@ -1,14 +1,15 @@
-//! Measures the parts of a search, on one thread: tables, whole searches of a shard, rows and folds, unpacking.
+//! Measures the parts of a search, on one thread: rows of all nodes and passes, whole searches of a shard, rows and
+//! folds, unpacking.
 //!
-//! It does what its words ask for, and prints the time:
-//! - `carry feed CHUNK TIMES` and `carry pass CHUNK TIMES` take a chunk of so many spectra into tables so often;
-//! - `engine SPECTRA WIDEST PERIODS CHUNK` searches so many spectra, with boxes of up to WIDEST path sums and folds of
-//!   the periods from 2 up to PERIODS, in chunks of up to CHUNK spectra (256 with no CHUNK);
-//! - `rows LENGTH REPEATS` adds rows of so many values so often;
-//! - `fold PERIOD HALVINGS REPEATS` folds 2^HALVINGS rows of PERIOD values so often;
-//! - `unpack words REPEATS` and `unpack bytes REPEATS` make rows of 32 bits, or of bytes, so often.
+//! It does what its arguments ask for, and prints the time:
+//! - `carry feed CHUNK TIMES` and `carry pass CHUNK TIMES` take a chunk of CHUNK spectra TIMES times;
+//! - `engine SPECTRA WIDEST PERIODS CHUNK` searches SPECTRA spectra, with boxes of up to WIDEST path sums and folds of
+//!   the periods from 2 up to PERIODS, in chunks of up to CHUNK spectra (256 without CHUNK);
+//! - `rows LENGTH REPEATS` adds rows of LENGTH values REPEATS times;
+//! - `fold PERIOD HALVINGS REPEATS` folds 2^HALVINGS rows of PERIOD values REPEATS times;
+//! - `unpack words REPEATS` and `unpack bytes REPEATS` make rows of 32 bits, or of bytes, REPEATS times.
 //!
-//! With no words it does a little of each. Other words are refused, with status 2.
+//! Without arguments it does a little of each. Other arguments are refused, with status 2.
 #![tactic(auto)]
 
 mod carry;
@@ -22,7 +23,7 @@ use std::rt::Clock;
 use std::time::Instant;
 use std::{env, io};
 
-/// Something that is measured.
+/// A part that is measured.
 #[derive(Clone, Copy)]
 enum Work {
     Carry(carry::Work),
@@ -31,7 +32,7 @@ enum Work {
     Unpack(unpack::Work),
 }
 
-/// What is done where there are no words.
+/// What is done without arguments.
 const FEW: [Work; 8] = [
     Work::Carry(carry::Work {
         way: carry::Way::Feed,
@@ -73,10 +74,10 @@ const FEW: [Work; 8] = [
     }),
 ];
 
-/// Words that ask for nothing that is done here.
+/// The exit status if arguments are refused.
 const FAULTY_WORDS: u8 = 2;
 
-// What the words ask for, if they are such words.
+// The work of the arguments, or `None` if they are refused.
 fn work_of(words: &[String]) -> Option<Work> {
     let (what, words) = words.split_first()?;
     match what.as_str() {
@@ -89,7 +90,7 @@ fn work_of(words: &[String]) -> Option<Work> {
     }
 }
 
-// Does the work, and prints what came of it, and the time that it took where that is asked for.
+// Does the work, and prints what came of it; if `timed`, also how long it took.
 fn show<R: AllocGlobal + Print + Clock>(rt: &R, work: Work, timed: bool) -> io::Result<()> {
     match work {
         Work::Carry(work) => carry::show(rt, work, timed),
@@ -105,7 +106,7 @@ fn show<R: AllocGlobal + Print + Clock>(rt: &R, work: Work, timed: bool) -> io::
     }
 }
 
-// Prints a sum that was made, and how long it took since the start where it is timed.
+// Prints a sum that was made; if `timed`, also the time since `start`.
 fn show_sum<R: Print + Clock>(
     rt: &R,
     sum: Result<u32, Memory>,
@@ -123,7 +124,7 @@ fn show_sum<R: Print + Clock>(
     Ok(())
 }
 
-// Answers the words, and says the program's status.
+// Does what the arguments ask for, and answers the exit status.
 fn answer<R: AllocGlobal + Print + Clock>(rt: &R, words: &[String]) -> io::Result<u8> {
     if words.is_empty() {
         for work in FEW {

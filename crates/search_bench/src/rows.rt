@@ -1,4 +1,4 @@
-//! Adds rows and folds series, again and again.
+//! Measures sums of rows and folds.
 
 ghost use Rattle.std.specs.Prelude.{◌≡◌, ◌*◌, ◌^◌, ◌<◌, ◌≤◌, IfOk, vec_len};
 ghost use Rattle.std.specs.List.{All};
@@ -9,11 +9,11 @@ use fdmt_rows::{add_rows, greatest};
 use psr_base::Memory;
 use std::alloc::Global;
 
-// The longest row, the longest period and the most rows of a fold.
+// The maximum length of a row, of a period, and number of rows of a fold.
 const LONGEST: u32 = 1 << 16;
 
-/// Something that is done again and again. A length, period or number of halvings out of range is taken as the nearest
-/// in range.
+/// Work that is done again and again. A length, period or number of halvings out of range is replaced by the nearest
+/// one in range.
 #[derive(Clone, Copy)]
 pub enum Work {
     Sums {
@@ -27,7 +27,7 @@ pub enum Work {
     },
 }
 
-/// The sums that the words LENGTH REPEATS ask for, if they are such words.
+/// The work of the arguments LENGTH REPEATS, or `None` if they are not of this form.
 pub fn sums_of(words: &[String]) -> Option<Work> {
     let [length, repeats] = words else {
         return None;
@@ -38,7 +38,7 @@ pub fn sums_of(words: &[String]) -> Option<Work> {
     })
 }
 
-/// The folds that the words PERIOD HALVINGS REPEATS ask for, if they are such words.
+/// The work of the arguments PERIOD HALVINGS REPEATS, or `None` if they are not of this form.
 pub fn fold_of(words: &[String]) -> Option<Work> {
     let [period, halvings, repeats] = words else {
         return None;
@@ -67,7 +67,7 @@ pub fn do_work(alloc: Global, work: Work) -> Result<u32, Memory> {
     }
 }
 
-// So many values up to 31.
+// `count` values up to 31.
 fn values(alloc: Global, count: usize) -> Result<Vec<u32>, Memory>
     ensures long { IfOk result (λ v. vec_len v ≡ count) }
     ensures small { IfOk result (λ v. All (λ x. x ≤ 31) v.items) }
@@ -82,7 +82,7 @@ fn values(alloc: Global, count: usize) -> Result<Vec<u32>, Memory>
     Ok(values)
 }
 
-// Adds two rows there and back.
+// Adds a row to another one, again and again.
 fn add_often(alloc: Global, length: usize, repeats: u32) -> Result<u32, Memory> {
     let step = values(alloc, length)?;
     let mut here = values(alloc, length)?;
@@ -97,7 +97,7 @@ fn add_often(alloc: Global, length: usize, repeats: u32) -> Result<u32, Memory> 
     Ok(greatest(here.as_slice()))
 }
 
-// Folds a series.
+// Folds a series again and again.
 fn fold_often(alloc: Global, period: u32, halvings: u32, repeats: u32) -> Result<u32, Memory>
     requires phases { 1 ≤ period }
     requires short { period ≤ 2 ^ 16 }
@@ -114,7 +114,7 @@ fn fold_often(alloc: Global, period: u32, halvings: u32, repeats: u32) -> Result
     Ok(most)
 }
 
-// Halves all that was loaded, and answers the greatest sum.
+// Folds all that was loaded by halves, and answers the greatest sum.
 fn greatest_of_fold(folder: &mut Folder, period: u32, halvings: u32) -> u32
     requires loaded { IsAt folder.old period halvings 0 }
     requires some { 1 ≤ halvings }

@@ -1,24 +1,24 @@
-//! Turns spectra of 1024 channels into rows, in chunks of 256 spectra.
+//! Measures how spectra of 1024 channels are turned into rows, in chunks of 256 spectra.
 
 use psr_base::Memory;
 use spectra_rows::Unpacker;
 use std::alloc::Global;
 
-/// What rows are made of: words of 32 bits, or bytes.
+/// The width of a sample in the rows: 32 bits, or a byte.
 #[derive(Clone, Copy)]
 pub enum Kind {
     Words,
     Bytes,
 }
 
-/// A chunk that is unpacked so often.
+/// A chunk that is unpacked `repeats` times.
 #[derive(Clone, Copy)]
 pub struct Work {
     pub into: Kind,
     pub repeats: u32,
 }
 
-/// What the words KIND REPEATS ask for, if they are such words.
+/// The work of the arguments KIND REPEATS, or `None` if they are not of this form.
 pub fn work_of(words: &[String]) -> Option<Work> {
     let [kind, repeats] = words else {
         return None;
@@ -33,7 +33,7 @@ pub fn work_of(words: &[String]) -> Option<Work> {
     })
 }
 
-// Opens an unpacker into rows of such a kind.
+// Opens an unpacker whose rows are of a kind.
 fn opened(alloc: Global, into: Kind) -> Result<Unpacker, Memory> {
     match into {
         Kind::Words => Unpacker::open(alloc, 1024, true, 8, 1, 256),
@@ -50,7 +50,7 @@ fn value_at(unpacker: &Unpacker, at: usize) -> u32 {
     }
 }
 
-/// Unpacks a chunk as often as it is asked for, and answers a sum of what was unpacked.
+/// Unpacks a chunk as often as asked, and answers a sum of the samples.
 pub fn do_work(alloc: Global, work: Work) -> Result<u32, Memory> {
     let bytes = vec![in alloc; 3_u8; 262144]?;
     let mut unpacker = opened(alloc, work.into)?;

@@ -1,8 +1,7 @@
 -- Channels that are left out one after another.
-use Rattle.std.proofs.Common.{◌≡◌, ◌≢◌, ℕ, ◌+◌, ◌<◌, ◌≤◌, refl, inl, inr, Bool, true, false, cond, not, List, length, ◌∙◌, sym, ap, subst, arith}
+use Rattle.std.proofs.Common.{◌≡◌, ◌≢◌, ℕ, ◌+◌, ◌<◌, refl, inl, inr, Bool, true, false, cond, List, ◌∙◌, sym, ap, subst, arith}
 use Rattle.std.proofs.lemmas.Bool.{cases_lt, lt-ltb, le-ltb}
-use Rattle.std.proofs.lemmas.List.{get_or_past}
-use Rattle.spectra_rows.specs.Unpacking.{Unpacking, LeavesOut, StandsForBytes, StandsForKept, unpacked}
+use Rattle.spectra_rows.specs.Unpacking.{Unpacking, LeavesOut, StandsForKept, unpacked}
 use Rattle.search_engine.specs.Scope.{kept_below, kept_by}
 
 pub same_kept : (u : Unpacking) (bytes : List ℕ) (gone : ℕ) (kept less : ℕ → Bool)
@@ -12,20 +11,6 @@ same_kept u bytes gone kept less same stands = record {
   rows = λ c t here low. stands.rows c t here low
       ∙ sym (ap (λ (b : Bool). cond b ((unpacked u bytes).value c (gone + t)) 0) (same c here));
 }
-
-pub all_kept : (u : Unpacking) (bytes : List ℕ) (gone : ℕ) → StandsForBytes u bytes gone
-    → StandsForKept (λ c. true) u bytes gone
-all_kept u bytes gone stands = record {
-  holds = record {
-    size = stands.size;
-    short = stands.short;
-    part = stands.part;
-  };
-  rows = stands.rows;
-}
-
-pub none_below : (masked : List Bool) (c : ℕ) → kept_below masked 0 c ≡ true
-none_below masked c = rw (le-ltb c 0 (omega arith)) refl
 
 -- below i + 1 as below i, but for i
 below_more : (masked : List Bool) (i c : ℕ) → c ≢ i → kept_below masked (i + 1) c ≡ kept_below masked i c
@@ -56,14 +41,4 @@ keeps masked i c is = elim (cases_lt c i) [
         let here : kept_below masked i i ≡ true = rw (le-ltb i i (omega arith)) refl in
         subst P e (at_more masked i ∙ is ∙ sym here)
   ]
-]
-
--- there is no mark past the last
-unmarked : (masked : List Bool) (c : ℕ) → length masked ≤ c → kept_by masked c ≡ true
-unmarked masked c past = ap not (get_or_past masked c false past)
-
-pub all_below : (masked : List Bool) (n c : ℕ) → n ≡ length masked → kept_by masked c ≡ kept_below masked n c
-all_below masked n c is = elim (cases_lt c n) [
-  | inl lt ↦ rw (lt-ltb c n lt) refl
-  | inr ge ↦ rw (le-ltb c n ge) (unmarked masked c (omega (arith, is, ge)))
 ]

@@ -87,7 +87,7 @@ pub record Searches (o : Observation) (e : EngineState) : Type 0 where
   pub max_sample : e.sums.carry.max_sample ≡ max_sample o
   pub search : e.sums.pulses.search ≡ e.search
 
--- its parts took these data bytes, which are some of those that it was fed
+-- the parts of an engine took these data bytes, which are some of those that it was fed
 pub record HoldsData (o : Observation) (bytes : List ℕ) (e : EngineState) : Type 0 where
   pub searches : Searches o e
   pub numbers : All (λ byte. byte < 256) bytes
@@ -97,7 +97,8 @@ pub record HoldsData (o : Observation) (bytes : List ℕ) (e : EngineState) : Ty
   pub sums : (f : Filterbank) → BeginsWith o (kept_samples o e.masked bytes) e.sums.carry.fed f
       → StandsForStream e.sums f
 
--- and whole chunks of them were searched, so that its book has the pulses that end at these spectra
+-- an engine took these data bytes and searched whole chunks of them: its book has the pulses that
+-- end at these spectra
 pub record HasTakenChunks (o : Observation) (bytes : List ℕ) (e : EngineState) : Type 0 where
   pub holds : HoldsData o bytes e
   pub chunks : e.sums.carry.fed % chunk_of e.search ≡ 0
@@ -112,7 +113,7 @@ pub record StandsForPart (o : Observation) (bytes : List ℕ) (e : EngineState) 
   pub count : length bytes ≡ e.fed
   pub chunks : HasTakenChunks o (bytes_in o e.sums.pulses.sought bytes) e
 
--- the same, where all of the observation is searched
+-- an engine that searches the whole observation was fed these data bytes
 pub record StandsForData (o : Observation) (bytes : List ℕ) (e : EngineState) : Type 0 where
   pub part : StandsForPart o bytes e
   pub whole : scope_of e ≡ whole_scope o.channels

@@ -1,4 +1,4 @@
--- What the fault of a plan says.
+-- Which refusal the fault of a plan means.
 -- Source: this project's choice.
 use Rattle.std.specs.Prelude.{◌≡◌, ◌⊎◌, Option, Some}
 use Rattle.search_model.specs.Plan as model
@@ -15,6 +15,6 @@ IsRefusedFirst first (TooManyFolds count) = first ≡ Some (model.TooManyFolds c
 IsRefusedFirst first (TooManyShards count delays) = first ≡ Some (model.TooManyShards count delays)
 IsRefusedFirst first Memory = ⊥
 
--- or want of memory
+-- the fault means this refusal, or it is want of memory
 abbrev pub Explains : Option PlanRefusal → PlanFault → Type 0
 Explains first fault = (fault ≡ Memory) ⊎ IsRefusedFirst first fault

@@ -12,8 +12,8 @@ use Rattle.shard_search.specs.Sought.{Sought, CanBeSought, cells_in, counted_of,
 use Rattle.search_engine.specs.declared.hiding.Masked.{Masked}
 use Rattle.search_engine.specs.declared.hiding.Masked.TheVariants.{Nothing, Marked}
 
--- which channels are masked: those whose places are marked, where channels count from the highest frequency; and what
--- is sought in the others
+-- which channels are masked: those with a mark, counted from the highest frequency; and what is
+-- sought in the others
 pub record Scope : Type 0 where
   pub masked : List Bool
   pub sought : Sought
@@ -22,7 +22,7 @@ pub record Scope : Type 0 where
 abbrev pub whole_scope : ℕ → Scope
 whole_scope n = record { masked = []; sought = whole_of n }
 
--- the channels without a mark, where a path sum of each delay adds up so many cells
+-- the channels without a mark; a path sum of each delay adds up as many cells as are counted
 abbrev pub scope_of_channels : List Bool → List ℕ → Scope
 scope_of_channels masked counts = record { masked = masked; sought = counted_of counts }
 
@@ -56,7 +56,7 @@ kept_samples o masked bytes = kept_of (kept_by masked) (filterbank_of o bytes)
 abbrev pub spectrum_size : Observation → ℕ
 spectrum_size o = o.channels * sample_bytes o.nbit o.npol
 
--- a limit of so many spectra, in bytes
+-- a limit in spectra as a limit in bytes
 abbrev pub limit_in_bytes : ℕ → Option ℕ → Option ℕ
 limit_in_bytes size None = None
 limit_in_bytes size (Some limit) = Some (limit * size)
@@ -66,7 +66,7 @@ abbrev pub bytes_before : Option ℕ → List ℕ → List ℕ
 bytes_before None bytes = bytes
 bytes_before (Some limit) bytes = take limit bytes
 
--- how many of n bytes that follow after so many come before a limit
+-- how many of the n bytes after the first `past` come before a limit
 abbrev pub count_before : Option ℕ → ℕ → ℕ → ℕ
 count_before None past n = n
 count_before (Some limit) past n = min (limit - past) n

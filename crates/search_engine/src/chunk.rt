@@ -5,8 +5,8 @@ ghost use Rattle.search_engine.specs.Engine.{chunk_of as chunk_of_search};
 
 use search_model::Search;
 
-/// The most spectra that are searched at a time. A block of 524288 bytes has 512, 256 or 128 spectra of 1024, 2048 or
-/// 4096 channels of 8 bits, so that a chunk of so many ends where a block does. This is tuning alone, and no clause
+/// The maximum number of spectra that are searched at a time. A block of 524288 bytes has 512, 256 or 128 spectra of
+/// 1024, 2048 or 4096 channels of 8 bits, so a chunk of 512 spectra ends where a block does. This is tuning; no clause
 /// asks for this number.
 pub const MOST_CHUNK: u32 = 512;
 

@@ -31,14 +31,14 @@ use dada_model::edges_fall;
 use search_model::samples_of_bytes;
 use shard_search::shards_are_listed;
 
-/// The search of one shard of an observation: data bytes are fed in pieces that are cut anywhere, and the candidates of
-/// the shard's delays are kept in a book. All memory is taken by `open`.
+/// The search of one shard of an observation. Data bytes are fed in pieces of any length, and the candidates of the
+/// shard's delays are kept in a book. `open` takes all memory.
 #[derive(Drop)]
 pub struct Engine {
     search: Search,
     shard: u32,
     masked: Masked,
-    // how many bytes a spectrum has; how many are left out at first, and before which one the search ends
+    // in bytes: the size of a spectrum, how many are skipped at first, and after how many the search stops
     spectrum: u64,
     skipped: u64,
     stop: Option<u64>,
@@ -77,7 +77,7 @@ impl Model for Engine {
 }
 
 impl Engine {
-    /// Takes the memory for a shard of a search of an observation, or says why the search is refused.
+    /// Takes the memory for shard `shard` of a search of an observation. The error says why the search is refused.
     pub fn open(
         alloc: Global,
         observation: &Observation,
@@ -100,7 +100,8 @@ impl Engine {
         )
     }
 
-    /// The same for a search of what lies in a scope. The search is refused as one of the whole observation is.
+    /// Takes the memory for shard `shard` of a search of what lies in a scope. The search is refused exactly as one of
+    /// the whole observation is.
     pub fn open_for(
         alloc: Global,
         observation: &Observation,
@@ -161,8 +162,8 @@ impl Engine {
         self.search_full();
     }
 
-    /// Takes the next data bytes as `feed` does, but leaves a chunk that is full where they end. It is searched by
-    /// `search_full`, by `end`, or before the next bytes are taken.
+    /// Takes the next data bytes as `feed` does, but leaves a chunk that becomes full at their end. `search_full` or
+    /// `end` searches it, or the call that takes the next bytes.
     pub fn unpack(&mut self, bytes: &[u8])
         requires running { self.old.has_ended ≡ false }
         requires few { self.old.fed + length bytes.now ≤ most_fed }
@@ -182,15 +183,15 @@ impl Engine {
         self.fed += (bytes.len() - to) as u64;
     }
 
-    /// How many bytes more make the chunk that is held full, at the least: those that the scope leaves out fill none.
-    /// `unpack` searches nothing where it takes no more than these. It is a hint: no clause speaks of the answer.
+    /// At least this many more bytes are needed to fill the chunk; bytes outside the scope fill nothing. `unpack`
+    /// searches nothing if it takes no more than these. It is a hint: no clause speaks of the answer.
     pub fn room(&self) -> u64 {
         let spectra = u64::from(self.chunk - self.unpacker.spectra());
         let part = self.fed % self.spectrum;
         spectra.saturating_mul(self.spectrum).saturating_sub(part)
     }
 
-    /// Searches the chunk that is held where it is full.
+    /// Searches the chunk, if it is full.
     pub fn search_full(&mut self)
         requires { self.old.has_ended ≡ false }
         ensures same { SameShard self.new self.old }
@@ -210,7 +211,7 @@ impl Engine {
         }
     }
 
-    // Takes bytes that are searched. A chunk that is full where they end is left.
+    // Takes bytes that are searched. A chunk that becomes full at their end is left.
     fn take_pieces(&mut self, bytes: &[u8])
         requires running { self.old.has_ended ≡ false }
         requires few { self.old.fed + length bytes.now ≤ most_fed }
@@ -228,7 +229,7 @@ impl Engine {
         }
     }
 
-    /// Ends the data: what is left of them is searched, but for an incomplete last spectrum, and then all folds.
+    /// Ends the data. All that is left of them is searched, except an incomplete last spectrum, and then all folds.
     pub fn end(&mut self)
         requires { self.old.has_ended ≡ false }
         ensures same { SameShard self.new self.old }
@@ -244,15 +245,15 @@ impl Engine {
         self.end_part();
     }
 
-    /// Before which spectrum of the observation all pulses were judged.
+    /// All pulses that end before this spectrum of the observation were judged.
     pub fn searched_to(&self) -> u64
         ensures { result ≡ searched_to_of self.now }
     {
         self.sums.searched_to()
     }
 
-    /// Begins a part: the book forgets its pulses, and those that end at the spectra that are not yet searched are
-    /// looked for. `parts_are_found` says which pulses the book had, and which it comes to have.
+    /// Begins a part. The book forgets its candidates, and from now on only pulses that end at later spectra are looked
+    /// for. The law `parts_are_found` says which pulses the book had, and which it will have.
     pub fn begin_part(&mut self)
         ensures same { SameShard self.new self.old }
         ensures scope { scope_of self.new ≡ scope_from (searched_to_of self.old) (scope_of self.old) }
@@ -268,21 +269,21 @@ impl Engine {
         self.book.clear();
     }
 
-    /// How many bytes were fed.
+    /// The number of bytes that were fed.
     pub fn fed(&self) -> u64
         ensures { result ≡ self.now.fed }
     {
         self.fed
     }
 
-    /// Whether the data were ended.
+    /// Whether `end` was called.
     pub fn has_ended(&self) -> bool
         ensures { result ≡ self.now.has_ended }
     {
         self.has_ended
     }
 
-    /// How many whole spectra the bytes are that were fed, those that are not searched among them.
+    /// The number of complete spectra that were fed, including those that are not searched.
     pub fn whole_spectra(&self) -> u64
         ensures value { result ≡ spectra_fed self.now }
         ensures all { (o : Described) (bytes : List ℕ) → StandsForPart o bytes self.now
@@ -291,29 +292,28 @@ impl Engine {
         self.fed / self.spectrum
     }
 
-    /// How many spectra were searched: after `end`, all whole spectra of the bytes that were fed and are to be
-    /// searched.
+    /// The number of spectra that were searched: after `end`, all complete spectra that were fed and lie in the scope.
     pub fn spectra(&self) -> u64
         ensures { result ≡ self.now.sums.carry.fed }
     {
         self.sums.fed()
     }
 
-    /// The candidates: after `end`, those of the shard.
+    /// The candidates so far: after `end`, those of the shard.
     pub fn book(&self) -> &Book
         ensures { result.now ≡ self.now.book }
     {
         &self.book
     }
 
-    /// The candidates alone.
+    /// Gives the candidates, and drops all else.
     pub fn into_book(self) -> Book
         ensures { result ≡ self.book }
     {
         self.book
     }
 
-    /// How many cells a path sum of a delay adds up.
+    /// How many cells a path sum of `delay` adds up.
     pub fn cells(&self, delay: u32) -> u32
         requires { cells_in (scope_of self.now).sought delay < 2 ^ 32 }
         ensures { result ≡ cells_in (scope_of self.now).sought delay }
@@ -321,15 +321,15 @@ impl Engine {
         self.sums.cells(delay)
     }
 
-    /// The path sums of the shard's delays: after `end`, over all whole spectra. The tables of all nodes stand for the
-    /// last of these alone: as many as come after the last whole chunk, but at most 16.
+    /// The path sums of the shard's delays: after `end`, over all complete spectra. The rows of all nodes can be read
+    /// for the last of these only: those after the last full chunk, at most 16.
     pub fn carry(&self) -> &Carry
         ensures { result.now ≡ self.now.sums.carry }
     {
         self.sums.carry()
     }
 
-    // Takes bytes up to the end of the chunk, of which some are missing, and answers how many it took.
+    // Takes bytes up to the end of the chunk, which is not full, and answers how many it took.
     fn take_piece(&mut self, bytes: &[u8]) -> usize
         requires room { HoldsNoFullChunk self.old }
         requires some { 0 < length bytes.now }
@@ -349,7 +349,7 @@ impl Engine {
         count
     }
 
-    // Searches the chunk that is held, which is full.
+    // Searches the chunk, which is full.
     fn search_chunk(&mut self)
         requires running { self.old.has_ended ≡ false }
         requires full { self.old.unpacker.whole ≡ self.old.unpacker.chunk }
@@ -370,7 +370,7 @@ impl Engine {
         self.unpacker.taken();
     }
 
-    // Ends the data where less than a chunk is held.
+    // Ends the data, if the chunk is not full.
     fn end_part(&mut self)
         requires running { self.old.has_ended ≡ false }
         requires part { HoldsNoFullChunk self.old }
@@ -396,7 +396,7 @@ impl Engine {
     }
 }
 
-// The least delay of a shard; it ends where the next one begins.
+// The smallest delay of a shard. The shard ends where the next one begins.
 fn shard_start(search: &Search, shard: u32) -> u32
     requires range { SettingsInRange search.now }
     requires shard { shard ≤ search.now.shards }
@@ -405,7 +405,7 @@ fn shard_start(search: &Search, shard: u32) -> u32
     search.min_delay + shard * (search.max_delay + 1 - search.min_delay) / search.shards
 }
 
-// How many bytes a spectrum of an observation has.
+// The number of bytes of a spectrum.
 fn spectrum_size(observation: &Observation) -> u64
     ensures value { result ≡ spectrum_size_of observation.now }
     ensures most { result ≤ 2 ^ 14 }
@@ -414,7 +414,7 @@ fn spectrum_size(observation: &Observation) -> u64
     u64::from(observation.channels()) * u64::from(observation.npol() * observation.nbit() / 8)
 }
 
-// A limit of so many spectra, in bytes.
+// A limit in spectra as a limit in bytes.
 fn limit_in_bytes(limit: Option<u64>, spectrum: u64) -> Option<u64>
     requires few { IfSome limit (λ m. m ≤ 2 ^ 48) }
     requires small { spectrum ≤ 2 ^ 14 }
@@ -426,7 +426,7 @@ fn limit_in_bytes(limit: Option<u64>, spectrum: u64) -> Option<u64>
     }
 }
 
-// How many of `count` bytes that follow after so many come before a limit, where there is one.
+// How many of the `count` bytes after the first `past` come before the limit; all if there is none.
 fn count_before(limit: Option<u64>, past: u64, count: usize) -> usize
     ensures value { result ≡ count_before_of limit past count }
     ensures most { result ≤ count }
@@ -437,7 +437,7 @@ fn count_before(limit: Option<u64>, past: u64, count: usize) -> usize
     }
 }
 
-// Whether each sample is a byte.
+// Whether each sample is a single byte.
 fn are_bytes(observation: &Observation) -> bool
     ensures bits { result ≡ true → observation.now.nbit ≡ 8 }
     ensures polarisation { result ≡ true → observation.now.npol ≡ 1 }
@@ -446,7 +446,7 @@ fn are_bytes(observation: &Observation) -> bool
     observation.nbit() == 8 && observation.npol() == 1
 }
 
-// An unpacker of an observation's data bytes, with no byte. Its rows are of bytes where the samples are.
+// An empty unpacker of an observation's data bytes. Its rows have a byte a sample if the samples are single bytes.
 fn open_unpacker(alloc: Global, observation: &Observation, chunk: u32) -> Result<Unpacker, Memory>
     requires some { 1 ≤ chunk }
     requires most { chunk ≤ 65536 }
@@ -469,7 +469,7 @@ fn open_unpacker(alloc: Global, observation: &Observation, chunk: u32) -> Result
     )
 }
 
-// The samples of the spectra that an unpacker holds.
+// The samples of the complete spectra that an unpacker holds.
 fn samples(unpacker: &Unpacker) -> Samples<'_>
     ensures long { length (values_of result) ≡ unpacker.now.channels * unpacker.now.chunk }
     ensures rows { values_of result ≡ unpacker.now.rows }
@@ -481,7 +481,7 @@ fn samples(unpacker: &Unpacker) -> Samples<'_>
     }
 }
 
-// The search of a shard's path sums, of which none is taken.
+// The search of a shard's path sums, without any spectrum yet.
 fn open_sums(
     alloc: Global,
     observation: &Observation,

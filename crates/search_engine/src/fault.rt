@@ -7,14 +7,15 @@ use thiserror::Error;
 /// Why a search of an observation is refused.
 #[derive(Clone, Copy, Debug, PartialEq, Eq, Drop, Error)]
 pub enum PlanFault {
-    /// A sum may pass 32 bits: the greatest sample, the most cells of a path sum, and how many path sums are added.
+    /// A sum may pass 32 bits: the greatest sample, the maximum number of cells of a path sum, and how many path sums
+    /// are added.
     #[error("{factor} sums of {cells} samples of up to {max_sample} pass 32 bits")]
     SumBound {
         max_sample: u32,
         cells: u32,
         factor: u32,
     },
-    /// A fold has more than 2^22 values: the longest period, and how often its rows are halved at most.
+    /// A fold has more than 2^22 values: the longest period, and the maximum number of halvings of its rows.
     #[error("2^{mmax} rows of {pmax} values are too many to fold")]
     FoldTooLarge {
         pmax: u32,

@@ -5,18 +5,17 @@ ghost use Rattle.search_engine.specs.Scope.{kept_by, marks_of};
 
 use spectra_rows::Unpacker;
 
-/// Which channels are masked: none, or those that are marked. The marks are those of the channels in order, from the
-/// highest frequency down.
+/// Which channels are masked. Marks are those of the channels in order, from the highest frequency down.
 #[derive(Drop)]
 pub enum Masked {
     /// No channel is masked.
     Nothing,
-    /// Those whose mark is true.
+    /// The channels whose mark is `true`.
     Marked(Vec<bool>),
 }
 
 impl Masked {
-    /// Sets the rows of the masked channels to 0 in the spectra that an unpacker holds.
+    /// Sets the rows of the masked channels to 0 in the complete spectra that an unpacker holds.
     pub fn hide(&self, unpacker: &mut Unpacker)
         requires count { length (marks_of self.now) ≤ unpacker.old.channels }
         requires few { unpacker.old.channels ≤ 4096 }
@@ -30,7 +29,7 @@ impl Masked {
     }
 }
 
-// Sets the rows of the channels that are marked to 0.
+// Sets the rows of the marked channels to 0.
 fn hide_marked(unpacker: &mut Unpacker, marks: &[bool])
     requires count { length marks.now ≤ unpacker.old.channels }
     requires few { unpacker.old.channels ≤ 4096 }

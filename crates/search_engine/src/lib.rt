@@ -1,4 +1,4 @@
-//! The search of one shard: data bytes, fed in pieces, to a book of candidates.
+//! Searches one shard of an observation: data bytes, fed in pieces, become a book of candidates.
 #![tactic(auto)]
 
 mod chunk;

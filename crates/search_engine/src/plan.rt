@@ -13,13 +13,13 @@ use search_model::Search;
 
 /// The greatest sum that fits into 32 bits.
 const MOST_SUM: u64 = (1 << 32) - 1;
-/// The most values that a fold can have.
+/// The maximum number of values of a fold.
 const MOST_FOLDED: u64 = 1 << 22;
-/// The most delays that can be folded.
+/// The maximum number of delays that can be folded.
 const MOST_FOLD_DELAYS: u32 = 64;
 
-/// Whether the sums, folds and shards of a search of an observation fit, or the first fault, in the order of
-/// `PlanFault`. It is never `Memory`.
+/// Checks that the sums, folds and shards of a search of an observation fit. The error is the first fault, in the order
+/// of `PlanFault`, and never `Memory`.
 pub fn check_plan(observation: &Observation, search: &Search) -> Result<(), PlanFault>
     requires { SettingsInRange search.now }
     ensures fits { OnOk result (plan_refusal observation.now search.now ≡ None) }
@@ -82,7 +82,7 @@ fn folds_are_on(search: &Search) -> bool
     search.fold_min <= search.fold_max
 }
 
-// How many path sums a box or a fold adds up at most.
+// The maximum number of path sums that a box or a fold adds up.
 fn most_added(search: &Search) -> u32
     requires { SettingsInRange search.now }
     ensures value { result ≡ most_added_of search.now }
@@ -96,7 +96,7 @@ fn most_added(search: &Search) -> u32
     search.widest.max(rows)
 }
 
-// How many delays are folded where folds are on.
+// The number of delays that are folded, if folding is on.
 fn fold_delay_count(search: &Search) -> u32
     requires { SettingsInRange search.now }
     ensures { result ≡ length (fold_delays search.now) }

@@ -1,4 +1,4 @@
-// What of an observation is searched.
+// The part of an observation that is searched.
 ghost use Rattle.std.specs.Prelude.{◌≡◌};
 ghost use Rattle.search_engine.specs.Scope.{Scope as Described, marks_of, scope_of_channels, scope_of_part, whole_scope};
 
@@ -6,13 +6,13 @@ use crate::hiding::Masked;
 use shard_search::Sought;
 use std::marker::Model;
 
-/// What of an observation is searched: which channels are masked, how many cells a path sum of each delay
-/// adds up, and which spectra and ends are searched.
+/// The part of an observation that is searched: which channels are masked, how many cells a path sum of each delay adds
+/// up, and which spectra and ends of pulses are searched.
 #[derive(Drop)]
 pub struct Scope {
     pub(crate) masked: Masked,
     pub(crate) sought: Sought,
-    // the first spectrum that is searched, and before which one the search ends
+    // the first spectrum that is searched, and the one before which the search ends
     pub(crate) first: u64,
     pub(crate) until: Option<u64>,
 }
@@ -26,7 +26,7 @@ impl Model for Scope {
 }
 
 impl Scope {
-    /// All of an observation of so many channels.
+    /// The whole observation, of `channels` channels.
     pub fn whole(channels: u32) -> Scope
         ensures { result ≡ whole_scope channels }
     {
@@ -38,8 +38,8 @@ impl Scope {
         }
     }
 
-    /// The channels that are not marked; the marks are those of the channels in order, from the highest frequency down.
-    /// A path sum of each delay, from 0 on, adds up so many cells of theirs.
+    /// The channels whose mark in `masked` is `false`; marks are in order, from the highest frequency down. `counts[d]`
+    /// is how many of their cells a path sum of delay `d` adds up.
     pub fn of_channels(masked: Vec<bool>, counts: Vec<u32>) -> Scope
         ensures { result ≡ scope_of_channels masked.items counts.items }
     {
@@ -51,8 +51,8 @@ impl Scope {
         }
     }
 
-    /// The pulses that end at spectrum `place` or after it and before spectrum `until`, over all of so many channels,
-    /// in the spectra from `first` on. All of these count from the first spectrum of the observation.
+    /// The pulses that end from spectrum `place` up to, but without, spectrum `until`, in all of `channels` channels.
+    /// The search reads the spectra from `first` on. All three count from the first spectrum of the observation.
     pub fn of_part(channels: u32, first: u64, place: u64, until: u64) -> Scope
         ensures { result ≡ scope_of_part channels first place until }
     {

@@ -5,15 +5,16 @@ ghost use Rattle.search_model.specs.Order.{IsBelow};
 /// What a search found: a sum of samples that stands out of the noise.
 #[derive(Clone, Copy, PartialEq, Eq, Debug)]
 pub enum Candidate {
-    /// The box of `width` path sums of a delay, the last of which ends at the spectrum `end`. `sum` is the box sum.
+    /// The box of `width` path sums of a delay, the last of which ends at spectrum `end`. `sum` is the box sum. `end`,
+    /// `delay` and `width` are in spectra.
     Pulse {
         end: u64,
         delay: u32,
         width: u32,
         sum: u32,
     },
-    /// The fold of a delay's series by `2^halvings` rows of `period` spectra, at a trial and a phase. `sum` is the fold
-    /// sum.
+    /// The fold of the series of a delay by `2^halvings` rows of `period` spectra, at one trial and one phase. `sum` is
+    /// the fold sum. `delay` and `period` are in spectra.
     Fold {
         delay: u32,
         period: u32,
@@ -29,7 +30,7 @@ impl Candidate {
     ghost use Rattle.search_model.specs.Candidates.{delay_of};
     ghost use Rattle.search_model.specs.Order.{Precedes};
 
-    /// The delay in spectra.
+    /// The delay across the band, in spectra.
     pub fn delay(&self) -> u32
         ensures { result ≡ delay_of self.now }
     {
@@ -39,8 +40,8 @@ impl Candidate {
         }
     }
 
-    /// Whether this candidate stands before the other in the candidate list: pulses go by end, delay and width, and
-    /// stand before all folds, which go by delay, period, trial and phase.
+    /// Whether this candidate comes before `other` in the candidate list. Pulses come before folds. Pulses are ordered
+    /// by end, then delay, then width; folds by delay, period, trial and phase.
     pub fn precedes(&self, other: &Candidate) -> bool
         ensures { IsTrue result ↔ Precedes self.now other.now }
     {
@@ -85,14 +86,14 @@ impl Candidate {
     }
 }
 
-// Whether a is below b, or equal to it and what is compared next is below.
+// Whether `a` is below `b`, or equal to it and `next` is true: `next` compares what comes after.
 fn is_below(a: u64, b: u64, next: bool) -> bool
     ensures { IsTrue result ↔ IsBelow a b (IsTrue next) }
 {
     a < b || (a == b && next)
 }
 
-// The same of 32 bits.
+// `is_below` for 32-bit numbers.
 fn is_below_u32(a: u32, b: u32, next: bool) -> bool
     ensures { IsTrue result ↔ IsBelow a b (IsTrue next) }
 {

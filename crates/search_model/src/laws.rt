@@ -8,118 +8,120 @@ ghost use Rattle.search_model.specs.DelayRanges.{RangesMerge};
 ghost use Rattle.search_model.specs.Parts.{PartsNeedNoMore, PartsJoin};
 ghost use Rattle.search_model.specs.MaskLaws.{PathSumsCountCells, PlainIsUnmasked};
 
-/// A half of the band gets no more than the delay of the whole.
+/// Each half of a band gets at most the delay of the whole band.
 pub fn splits_fit()
     ensures { SplitsFit }
 {}
 
-/// The delays of two halves make those of the whole.
+/// The delays of the two halves of a band, joined, are those of the whole band.
 pub fn halves_join()
     ensures { HalvesJoin }
 {}
 
-/// The delay path of the definition exists and is the only one.
+/// A delay path as it is defined exists, and there is only one.
 pub fn has_one_path()
     ensures { HasOnePath }
 {}
 
-/// A pulse passes no channel before the one above it.
+/// A delay path never falls from one edge to the next one down the band.
 pub fn paths_rise()
     ensures { PathsRise }
 {}
 
-/// A path sum of delay d over n channels adds n + d cells.
+/// A path sum of delay `d` over `n` channels adds `n + d` cells.
 pub fn cells_are_counted()
     ensures { CellsAreCounted }
 {}
 
-/// The test of the candidate list is the detection rule.
+/// The test that the candidate list is made with is the detection rule.
 pub fn tests_detection()
     ensures { TestsDetection }
 {}
 
-/// A sum that is detected stays so where it is greater.
+/// A sum at least as great as a detected one of the same number of cells is detected too.
 pub fn detection_rises()
     ensures { DetectionRises }
 {}
 
-/// The candidate list has exactly the boxes and the folds that are searched and detected.
+/// The candidate list has exactly the boxes and folds that are searched and detected.
 pub fn candidates_are_listed()
     ensures { CandidatesAreListed }
 {}
 
-/// The candidate list is in the order of candidates, each once.
+/// The candidate list is sorted in the order of candidates, and has no candidate twice.
 pub fn candidates_rise()
     ensures { CandidatesRise }
 {}
 
-/// The order is strict, and of two candidates one precedes the other or they share a delay.
+/// The order of candidates is strict, and of two candidates one comes first or they have the same delay.
 pub fn order_is_strict()
     ensures { OrderIsStrict }
 {}
 
-/// Rising lists with the same members are equal, and lists have one merge.
+/// Two rising lists with the same members are equal, and lists have at most one merge.
 pub fn rising_lists_agree()
     ensures { RisingListsAgree }
 {}
 
-/// The parts of the shards, merged, are the candidate list.
+/// The lists of all shards, merged, are the candidate list.
 pub fn shards_merge()
     ensures { ShardsMerge }
 {}
 
-/// Of one shard, the part is the whole candidate list.
+/// If there is only one shard, its list is the whole candidate list.
 pub fn one_shard_is_all()
     ensures { OneShardIsAll }
 {}
 
-/// Candidate lists agree where the cells of each delay that is searched do.
+/// Two candidate lists are equal if the cells of each searched delay are the same.
 pub fn cells_agree()
     ensures { CellsAgree }
 {}
 
-/// The candidate lists of neighbouring ranges of delays, merged, are the candidate list, where the ranges fold the same
-/// delays.
+/// If neighbouring ranges of delays fold the same delays, their candidate lists, merged, are the candidate list of the
+/// whole range.
 pub fn ranges_merge()
     ensures { RangesMerge }
 {}
 
-/// The pulses that end from a place on are found in the spectra from max-delay and the widest box before it on.
+/// The pulses that end at or after a spectrum can be found without any data further before it than the longest delay
+/// and the widest box together.
 pub fn parts_need_no_more()
     ensures { PartsNeedNoMore }
 {}
 
-/// The texts of parts, one after another and without the last lines of all but the last, are the text of the whole.
+/// The outputs of the parts of a file, one after another and each but the last without its last lines, are the output
+/// of the whole file.
 pub fn parts_join()
     ensures { PartsJoin }
 {}
 
-/// A path sum over ones in the channels that are kept, and zeros in all others, counts the cells that are kept.
+/// A path sum over data that are 1 in all kept channels and 0 in all others counts the cells that are kept.
 pub fn path_sums_count_cells()
     ensures { PathSumsCountCells }
 {}
 
-/// Where all channels are kept, the search is the plain one.
+/// If all channels are kept, the search is the one without a mask.
 pub fn plain_is_unmasked()
     ensures { PlainIsUnmasked }
 {}
 
-/// The sum over a part of the band is that of its upper half and that of its lower half.
+/// The sum over a part of the band is the sum over its upper half plus the sum over its lower half.
 pub fn halves_add()
     ensures { HalvesAdd }
 {}
 
-/// The sum over one channel grows by a sample for each spectrum of delay.
+/// In a single channel, each spectrum of delay adds one sample to the sum.
 pub fn one_channel_adds()
     ensures { OneChannelAdds }
 {}
 
-/// The sum over one channel without a delay is the sample.
+/// The sum over a single channel without a delay is the sample.
 pub fn one_channel_is_its_sample()
     ensures { OneChannelIsItsSample }
 {}
 
-/// A sum that ends so many spectra earlier, seen from as many spectra later, is the same.
+/// A sum doesn't change if it ends some spectra earlier and is taken that many spectra late.
 pub fn time_shifts()
     ensures { TimeShifts }
 {}
@@ -134,22 +136,23 @@ pub fn whole_band_is_path_sum()
     ensures { WholeBandIsPathSum }
 {}
 
-/// From one delay to the next, each half gets the same delay or one spectrum more.
+/// If a delay grows by one spectrum, the delay of each half of the band stays or grows by one spectrum.
 pub fn splits_step()
     ensures { SplitsStep }
 {}
 
-/// A path sum that ends k spectra before u is the one that ends at u - k, and 0 before the first spectrum.
+/// A path sum that is taken `k` spectra before `u` is the one that ends at `u - k`, or 0 if that is before the first
+/// spectrum.
 pub fn late_path_sums()
     ensures { LatePathSums }
 {}
 
-/// A path sum or a box sum is at most its cells times the greatest sample.
+/// A path sum or box sum is at most the number of its cells times the greatest sample.
 pub fn sums_are_bounded()
     ensures { SumsAreBounded }
 {}
 
-/// Bytes of 8 bits and one polarisation are the samples, and further bytes change no sample.
+/// Bytes of 8 bits and one polarisation are the samples themselves, and bytes that follow change no sample.
 pub fn samples_of_bytes()
     ensures { SamplesOfBytes }
 {}

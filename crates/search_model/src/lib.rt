@@ -1,6 +1,7 @@
-//! Definitions of what a search prints: samples, delay paths, sums, folds, detection, the candidates and their text.
-//! They stand in `specs/`. The settings of a search and a candidate are plain data that every layer shares. The
-//! functions of `laws` carry laws of the definitions and do nothing else.
+//! Definitions of what a search prints: samples, delay paths, sums, folds, detection, candidates and their text.
+//!
+//! The definitions stand in `specs/`. `Search`, the settings of a search, and `Candidate` are plain data that every
+//! layer shares. The functions of `laws` carry laws of the definitions and do nothing when they run.
 #![tactic(auto)]
 
 mod candidate;

@@ -1,4 +1,4 @@
-// The observations of all transfers are given to the feeder.
+// Gives the observations of all transfers to the feeder.
 ghost use Rattle.std.specs.Prelude.{◌≡◌, ◌≤◌, length};
 ghost use Rattle.disk_feeder.specs.Feeder.{IsBegun, headers_of};
 ghost use Rattle.search_opening.specs.Feeders.{HasAcceptedFirsts};
@@ -8,8 +8,8 @@ use disk_feeder::Feeder;
 use obs_plan::Observation;
 use psr_base::Inputs;
 
-/// Gives the feeder the observations of all first headers, by which it judges the later headers of each transfer. Its
-/// turns then go on from where the first header is sealed, which the caller has to do, and no data are.
+/// Gives the feeder the observation of each first header, by which it judges the later headers of that transfer. Its
+/// next turn goes on after the first header and before any data: the caller must seal that header.
 pub fn accept_all<'a, I: Inputs>(feeder: &mut Feeder<'a, I>, observations: &[Option<Observation>])
     requires some { 1 ≤ length observations.now }
     requires begun { IsBegun (I.told feeder.old.inputs.now) feeder.old }

@@ -1,4 +1,4 @@
-// A run begins: the first headers of all transfers are read, by its settings.
+// Begins a run: reads the first headers of all transfers, by its settings.
 ghost use Rattle.std.specs.Prelude.{◌≡◌, ◌≢◌, Err, IfOk, IfErr};
 ghost use Rattle.psr_base.specs.Inputs.{HasReadFrom};
 ghost use Rattle.search_words.specs.Settings.{RunInRange, with_search, run_seen};
@@ -19,9 +19,8 @@ use search_model::MOST_TRANSFERS;
 use search_words::RunSettings;
 use std::alloc::Global;
 
-/// The observations of all transfers of a run by their first headers, in order, as `begin_feed` gives them; the clauses
-/// speak of the files that the settings name. At `Err` the first header that is refused, a fault of the inputs, or want
-/// of memory.
+/// The observations of all transfers of a run, in order, as `begin_feed` answers them; here the clauses speak of the
+/// files that the settings name. The error is the first refused header, a fault of the inputs, or `Memory`.
 pub fn begin_run<'a, I: Inputs>(
     alloc: Global,
     run: &RunSettings,

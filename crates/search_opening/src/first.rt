@@ -16,14 +16,14 @@ use std::alloc::Global;
 // A law: it does nothing when it runs, and the proofs use what it ensures.
 use dada_model::accepted_by_rows;
 
-// The first header of a transfer has no observation. Transfers count from 0.
+// A transfer, counted from 0, whose first header has no observation.
 #[derive(Clone, Copy)]
 pub(crate) struct RefusedHeader {
     transfer: usize,
     cause: ObsFault,
 }
 
-// The observations of the first headers of all transfers, in order, or the first that is refused.
+// The observations of the first headers of all transfers, in order. The error is the first one that is refused.
 fn observe_all<'a, I: Inputs>(
     alloc: Global,
     feeder: &Feeder<'a, I>,
@@ -45,9 +45,9 @@ fn observe_all<'a, I: Inputs>(
     Ok(observations)
 }
 
-/// The observations of all transfers by their first headers, in order; transfer k begins with file `starts[k]`. All
-/// headers are read, each judged by its text as it is read, before the first is judged by its fields. At `Err` the
-/// first header that is refused, a fault of the inputs, or want of memory.
+/// Reads the first headers of all transfers, and answers their observations in order. Transfer k begins with file
+/// `starts[k]`. All headers are read, and each is judged by its text as it is read, before the fields of the first are
+/// judged. The error is the first refused header, a fault of the inputs, or `Memory`.
 pub fn begin_feed<'a, I: Inputs>(
     alloc: Global,
     feeder: &mut Feeder<'a, I>,

@@ -1,4 +1,4 @@
-// What the first headers of all transfers say is judged.
+// Judges what the first headers of all transfers say.
 ghost use Rattle.std.specs.Prelude.{◌≡◌, ◌≤◌, ◌^◌, ◌⊎◌, true, IfErr, OnOk, OnErr, length};
 ghost use Rattle.search_model.specs.Search.{SettingsInRange};
 ghost use Rattle.search_words.specs.Settings.{RunInRange, run_seen};
@@ -21,7 +21,7 @@ use run_stop::{Purpose, Stop};
 use search_words::RunSettings;
 use std::alloc::Global;
 
-// Whether all transfers can be searched, if the run searches.
+// Checks that all transfers can be searched, if the run searches.
 fn judge_search(purpose: Purpose, observations: &[Option<Observation>]) -> Result<(), Stop>
     requires range { IfSearch (task_of purpose) (search_for purpose) SettingsInRange }
     ensures fit { OnOk result (IfSearch (task_of purpose) (search_for purpose) (λ search.
@@ -40,7 +40,7 @@ fn judge_search(purpose: Purpose, observations: &[Option<Observation>]) -> Resul
     }
 }
 
-// Whether all transfers can be recorded, if the run records.
+// Checks that all transfers can be recorded, if the run records.
 fn judge_recording<'a, I: Inputs>(
     alloc: Global,
     run: &RunSettings,
@@ -80,7 +80,7 @@ fn judge_recording<'a, I: Inputs>(
     }
 }
 
-/// Whether all transfers can be searched and recorded, as far as the run does so, or what is refused first.
+/// Checks that all transfers can be searched and recorded, as far as the run does so. The error is the first refusal.
 pub(crate) fn judge<'a, I: Inputs>(
     alloc: Global,
     purpose: Purpose,

@@ -1,6 +1,7 @@
-//! What comes before data flow: the first headers of all transfers, the plans of their search and their recordings are
-//! judged, and the stage of a session is made. All memory is taken before the first data byte is sealed.
-//! `open_run` does all of it for a run; `begin_run`, `check_plans`, `fit_all` and `open_banks` are its steps.
+//! Opens a run: reads and judges the first headers of all transfers, the plans of their search and their recordings,
+//! takes all memory, and makes the stage of a session, before the first data byte is sealed.
+//!
+//! `open_run` does all of it; `begin_run`, `check_plans`, `fit_all` and `open_banks` are its steps.
 #![tactic(auto)]
 
 mod accept;

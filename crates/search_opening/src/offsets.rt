@@ -7,7 +7,7 @@ use arrayvec::ArrayVec;
 use obs_plan::Observation;
 use search_model::MOST_TRANSFERS;
 
-// The OBS_OFFSET of an observation.
+// The OBS_OFFSET of an observation, in bytes.
 fn offset_of(observation: &Option<Observation>) -> u64
     requires { IsSome observation.now }
     ensures is { (o : Described) → observation.now ≡ Some o → result ≡ o.obs_offset }
@@ -20,7 +20,7 @@ fn offset_of(observation: &Option<Observation>) -> u64
     observation.obs_offset()
 }
 
-/// The OBS_OFFSET of the first data byte of each transfer, in order.
+/// The OBS_OFFSET of the first data byte of each transfer, in order, in bytes.
 pub fn first_offsets(observations: &[Option<Observation>]) -> ArrayVec<u64, MOST_TRANSFERS>
     requires few { length observations.now ≤ 8 }
     requires there { All IsSome observations.now }

@@ -1,4 +1,4 @@
-// What comes before the session of a run.
+// Opens the session of a run.
 ghost use Rattle.std.specs.Prelude.{◌≡◌, ◌≢◌, Err, IfOk, IfErr, OnOk};
 ghost use Rattle.psr_base.specs.Told.{Told};
 ghost use Rattle.psr_base.specs.Inputs.{HasReadFrom};
@@ -26,11 +26,11 @@ use search_words::RunSettings;
 use std::alloc::Global;
 use std::thread::Threads;
 
-/// An opened run: all space of its session and of its recorder is taken.
+/// An opened run. All memory of its session and of its recorder is taken.
 pub struct OpenedRun<'a, I, F> {
     /// The observation of each transfer, in order. Each slot is `Some`.
     pub observations: ArrayVec<Option<Observation>, MOST_TRANSFERS>,
-    /// All space.
+    /// The space of the session and of the recorder.
     pub spaces: Spaces<'a, I, F>,
 }
 
@@ -82,7 +82,7 @@ fn open_begun<'a, I: Inputs, F: Files, R: Threads + Sync>(
     }
 }
 
-/// Reads the first headers, judges them, and takes all memory. `offsets` is space for the OBS_OFFSET of the first data
+/// Reads and judges the first headers, and takes all memory. `offsets` is space for the OBS_OFFSET of the first data
 /// byte of each transfer.
 pub fn open_run<'a, I: Inputs, F: Files, R: Threads + Sync>(
     rt: &R,

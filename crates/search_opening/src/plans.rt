@@ -1,4 +1,4 @@
-// The plans of a search of all transfers.
+// Checks the search of all transfers.
 ghost use Rattle.std.specs.Prelude.{◌≡◌, Some, None, IfSome, IfErr, OnOk, length};
 ghost use Rattle.dada_model.specs.Observation.{Observation as Described};
 ghost use Rattle.search_model.specs.Search.{SettingsInRange};
@@ -14,7 +14,7 @@ use run_stop::Stop;
 use search_engine::{PlanFault, check_plan};
 use search_model::Search;
 
-// Whether the search of an observation fits, if there is one.
+// Checks that the search of an observation fits, if there is one.
 fn check_at(observation: &Option<Observation>, search: &Search) -> Result<(), PlanFault>
     requires { SettingsInRange search.now }
     ensures fits { OnOk result (IfSome observation.now (λ o. plan_refusal o search.now ≡ None)) }
@@ -27,7 +27,7 @@ fn check_at(observation: &Option<Observation>, search: &Search) -> Result<(), Pl
     }
 }
 
-// Whether the search of each observation fits, in order, or the first that does not.
+// Checks in order that the search of each observation fits. The error is the first fault.
 fn judge_plans(observations: &[Option<Observation>], search: &Search) -> Result<(), PlanFault>
     requires { SettingsInRange search.now }
     ensures fit { OnOk result (PlansFit search.now observations.now) }
@@ -39,7 +39,7 @@ fn judge_plans(observations: &[Option<Observation>], search: &Search) -> Result<
     Ok(())
 }
 
-/// Whether the search of each observation fits, in order, or why the first that does not is refused.
+/// Checks in order that the search of each observation fits. The error is the first refusal.
 pub fn check_plans(observations: &[Option<Observation>], search: &Search) -> Result<(), Stop>
     requires { SettingsInRange search.now }
     ensures fit { OnOk result (PlansFit search.now observations.now) }

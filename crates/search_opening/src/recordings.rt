@@ -1,4 +1,4 @@
-// Whether the data of all transfers can be recorded.
+// Checks that the data of all transfers can be recorded.
 ghost use Rattle.std.specs.Prelude.{◌≡◌, ◌^◌, ◌≤◌, Some, IsSome, IfErr, OnOk, length};
 ghost use Rattle.dada_model.specs.ChangeLaws.{IsReadBack};
 ghost use Rattle.dada_model.specs.Observation.{Observation as Described};
@@ -16,7 +16,7 @@ use obs_plan::Observation;
 use psr_base::Inputs;
 use run_stop::Stop;
 
-// Whether the data of a transfer can be recorded under its header, from the observation's OBS_OFFSET on.
+// Checks that the data of a transfer can be recorded under its header, from the observation's OBS_OFFSET on.
 fn fits_one(
     header: &Header,
     observation: &Option<Observation>,
@@ -37,13 +37,13 @@ fn fits_one(
         unreachable!()
     };
     observation.lies_in_range();
-    // What `bytes` ensures: it is read back as the header.
+    // The contract of `bytes` is needed here: they are read back as the header.
     let _bytes = header.bytes();
     space.copy_from(header);
     fits(space, observation.obs_offset(), file_size, max_bytes)
 }
 
-// Checks in order that each transfer can be recorded; answers the first refusal.
+// Checks in order that each transfer can be recorded. The error is the first refusal.
 fn judge_recordings<'a, I: Inputs>(
     feeder: &Feeder<'a, I>,
     observations: &[Option<Observation>],
@@ -70,8 +70,8 @@ fn judge_recordings<'a, I: Inputs>(
     Ok(())
 }
 
-/// Checks in order that the data of each transfer, at most `max_bytes` of them, can be recorded in files of `file_size`
-/// data bytes; answers the first refusal. The headers are judged in `space`.
+/// Checks in order that the data of each transfer, up to `max_bytes` bytes of each, can be recorded in files of
+/// `file_size` data bytes. The error is the first refusal. The headers are judged in `space`.
 pub fn fit_all<'a, I: Inputs>(
     feeder: &Feeder<'a, I>,
     observations: &[Option<Observation>],

@@ -10,8 +10,8 @@ use psr_base::Memory;
 use ring_words::{MOST_READERS, RingShape};
 use std::alloc::Global;
 
-/// The measures of the data ring of a run: `max_bytes` data bytes in `transfers` transfers are sealed in blocks of
-/// `size` bytes. All of its blocks together have at most 2^48 + 2^28 bytes.
+/// The shape of a run's data ring. At most `max_bytes` data bytes, in `transfers` transfers, are sealed in blocks of
+/// `size` bytes. All its blocks together have at most 2^48 + 2^28 bytes.
 pub fn run_shape(buffers: u32, size: u32, readers: u32, max_bytes: u64, transfers: u32) -> RingShape
     requires buffers { (2 ≤ buffers) × (buffers ≤ 64) }
     requires size { (1 ≤ size) × (size ≤ 2 ^ 24) }
@@ -30,7 +30,7 @@ pub fn run_shape(buffers: u32, size: u32, readers: u32, max_bytes: u64, transfer
     }
 }
 
-/// Opens the rings of a run and seals the first header. No reader has read.
+/// Opens the rings of a run and seals the first header. No reader has read it yet.
 pub(crate) fn open_rings(
     alloc: Global,
     shape: RingShape,

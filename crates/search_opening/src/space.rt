@@ -15,8 +15,8 @@ use search_model::MOST_SHARDS;
 use search_session::{Bank, Hand, Stage};
 use std::alloc::Global;
 
-// How many bytes the space of a shard has: room for a header, and if the rings have other readers also for a block of
-// data, so that the shard can copy it and give it back before it searches it.
+// The number of bytes of a shard's space: room for a header, and also for a block of data if the rings have other
+// readers, so that the shard can copy the block and give it back before it searches it.
 fn space_size(shape: RingShape) -> u32
     ensures header { 65537 ≤ result }
     ensures block { 1 < shape.readers → shape.size ≤ result }
@@ -64,7 +64,7 @@ fn open_hands<'a, I: Inputs, F: Files>(
 }
 
 /// The space of a stage: the rings, with the first header sealed, the banks, a space for each, and the hands. It is all
-/// memory of a session except that of its feeder and of its recorder.
+/// memory of a session except that of its feeder and its recorder.
 #[derive(Drop)]
 pub struct StageSpace<'a, I, F> {
     hdu: Hdu,
@@ -78,8 +78,8 @@ pub struct StageSpace<'a, I, F> {
 impl<'a, I: Inputs, F: Files> StageSpace<'a, I, F> {
     ghost use Rattle.search_opening.specs.Space.{IsSpaceOf, banks_in, hands_in, AreStaged};
 
-    /// Takes all space, for rings of this shape, for these banks, of which there may be none, and for `hands` hands;
-    /// and seals the header.
+    /// Takes all space, and seals the header: for rings of this shape, for these banks, which may be none, and for
+    /// `hands` hands.
     pub fn reserve(
         alloc: Global,
         banks: ArrayVec<Option<Bank>, MOST_SHARDS>,

@@ -1,4 +1,4 @@
-// All space of a run.
+// The space of a run.
 ghost use Rattle.std.specs.Prelude.{◌≡◌, ◌+◌, ◌^◌, ◌≤◌, true, All, IsSome, IfOk, List, length, Option};
 ghost use Rattle.search_model.specs.Search.{SettingsInRange};
 ghost use Rattle.dada_model.specs.Observation.{Observation as Observed};
@@ -24,8 +24,8 @@ use search_words::RunSettings;
 use std::alloc::Global;
 use std::thread::Threads;
 
-// A bank for each shard of a search, or none if files are only recorded. At most as many threads as the session has
-// hands open them at the same time.
+// A bank for each shard of a search, or none if files are only recorded. At most `hands` threads open them at the same
+// time.
 fn take_banks<R: Threads + Sync>(
     rt: &R,
     alloc: Global,
@@ -70,7 +70,7 @@ fn take_recorder<'a>(
     }
 }
 
-// How many recorders a run has.
+// The number of recorders of a run: 0 or 1.
 fn recorder_count(run: &RunSettings) -> u32
     ensures { result ≡ recorders (run_seen run.now) }
 {
@@ -103,7 +103,7 @@ fn take_stage<'a, I: Inputs, F: Files>(
     StageSpace::reserve(alloc, banks, shape, header, run.hands)
 }
 
-/// All space of a run.
+/// All memory of a run.
 pub struct Spaces<'a, I, F> {
     /// The space of its session.
     pub stage: StageSpace<'a, I, F>,
@@ -114,7 +114,7 @@ pub struct Spaces<'a, I, F> {
 impl<'a, I: Inputs, F: Files> Spaces<'a, I, F> {
     ghost use Rattle.search_opening.specs.Spaces.{AreSpaces};
 
-    /// Takes all space of a run with this first header. Transfer k begins at OBS_OFFSET `offsets[k]`.
+    /// Takes all memory of a run with this first header. The data of transfer k begin at OBS_OFFSET `offsets[k]`.
     pub(crate) fn reserve<R: Threads + Sync>(
         rt: &R,
         alloc: Global,

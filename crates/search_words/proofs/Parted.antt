@@ -58,19 +58,11 @@ abbrev pub all_from : Bool → List (List (List ℕ)) → Bool
 all_from has_name [] = true
 all_from has_name (names ∷ more) = (has_name || has_names names) && list_all has_names more
 
-pub none_yet : (lists : List (List (List ℕ))) → all_from false lists ≡ list_all has_names lists
-none_yet [] = refl
-none_yet (names ∷ more) = refl
-
 grown : (b : Bool) (word : List ℕ) (lists : List (List (List ℕ))) →
     all_from b (with_first word lists) ≡ all_from true lists
 grown b word [] = refl
 grown true word (names ∷ more) = refl
 grown false word (names ∷ more) = ap (λ v. v && list_all has_names more) (lt-ltb 0 (suc (length names)) (omega arith))
-
-pub last_ends : (b : Bool) → all_from b (transfers_in []) ≡ b
-last_ends true = refl
-last_ends false = refl
 
 -- where the transfers after the first start, after n names
 abbrev pub later_starts : ℕ → List (List (List ℕ)) → List ℕ

@@ -1,4 +1,4 @@
-// What clap makes of the words.
+// The command lines of the programs, read by clap.
 ghost use Rattle.std.specs.Prelude.{◌≡◌, ◌≢◌, List, [], ◌∷◌, ◌++◌, map, string_bytes, Err, IfOk, IfErr, false};
 ghost use Rattle.clap.specs.Words.{Rule, app_of, found_of, rows_of, rule_of, kind_of};
 ghost use Rattle.search_words.specs.Command.{option_rule, option_rules, flag_rules, command_with, record_rule, file_rule, command_of, matches_on, TakesWords, IsSimpleLine};
@@ -29,7 +29,7 @@ fn record_flag<'a>(alloc: Global) -> Arg<'a>
         .action(ArgAction::SetTrue)
 }
 
-// The names of files.
+// The argument for the names of files.
 fn file<'a>(alloc: Global) -> Arg<'a>
     ensures rule { rule_of result ≡ file_rule }
     ensures here { result.global ≡ false }
@@ -40,7 +40,7 @@ fn file<'a>(alloc: Global) -> Arg<'a>
         .required(true)
 }
 
-// The command with one more option, where the program has it.
+// The command with one more option, if the program has it.
 fn with_option<'a>(
     alloc: Global,
     program: Program,
@@ -59,7 +59,7 @@ fn with_option<'a>(
     }
 }
 
-// The command with the flag, where the program has it.
+// The command with the flag, if the program has it.
 fn with_flag<'a>(
     alloc: Global,
     program: Program,
@@ -75,7 +75,7 @@ fn with_flag<'a>(
     }
 }
 
-// The command of a program.
+// The command of a program, with all its options.
 fn command<'a>(alloc: Global, program: Program) -> Result<Command<'a>, AllocError>
     ensures { IfOk result (λ c. app_of c ≡ command_of program) }
 {
@@ -87,7 +87,7 @@ fn command<'a>(alloc: Global, program: Program) -> Result<Command<'a>, AllocErro
     with_flag(alloc, program, command)?.arg(file(alloc))
 }
 
-/// What clap finds in the words, of which the first is the program's name.
+/// What clap finds in the arguments `words`, of which the first is the program's name.
 pub(crate) fn matches_of<'a>(
     alloc: Global,
     program: Program,
@@ -107,7 +107,7 @@ pub(crate) fn matches_of<'a>(
     }
 }
 
-// The fault of an error of clap's.
+// The fault that an error of clap stands for.
 fn fault_of(error: Error) -> WordFault
     ensures { result ≡ fault_of_kind (kind_of error) }
 {

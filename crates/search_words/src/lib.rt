@@ -1,5 +1,5 @@
-//! The settings of the programs, read from their words by clap. The table of options, what the words say and why they
-//! are refused are defined in `specs/`.
+//! The settings of the programs, read from their arguments by clap. The table of options, what arguments mean and why
+//! they are refused are defined in `specs/`.
 #![tactic(auto)]
 
 mod command;

@@ -2,7 +2,7 @@
 ghost use Rattle.std.specs.Prelude.{◌≡◌};
 ghost use Rattle.search_words.specs.Table.{option_name};
 
-/// An option that takes a value, or the names of files.
+/// An option that takes a value; `File` stands for the names of files.
 #[derive(Clone, Copy, PartialEq, Eq, Debug)]
 pub enum Opt {
     MaxDelay,
@@ -28,7 +28,8 @@ pub enum Opt {
 }
 
 impl Opt {
-    /// Its name as the table of options has it, without dashes: `mean`, and `FILE` for the names of files.
+    /// The name of the option without its dashes, as in the table of options: `mean`. It is `FILE` for the names of
+    /// files.
     pub fn name(self) -> &'static str
         ensures { result.now ≡ option_name self }
     {

@@ -1,4 +1,4 @@
-// Reading the settings.
+// Reading the settings from the arguments.
 ghost use Rattle.std.specs.Prelude.{◌≡◌, ◌≢◌, codes, map, string_bytes, Err, IfOk, IfErr, None, true, false};
 ghost use Rattle.std.specs.Option.{option_map_or};
 ghost use Rattle.std.specs.Str.{bytes_eq};
@@ -45,7 +45,7 @@ fn search(matches: &ArgMatches<'_>) -> Search
     }
 }
 
-// Whether a text is that of a flag that was given.
+// Whether the text that clap found under a flag says that the flag was given.
 fn is_true(text: Option<&str>) -> bool
     ensures { result ≡ option_map_or (λ word. bytes_eq word.now (codes "true")) text.entry false }
 {
@@ -65,7 +65,7 @@ fn is_recording(program: Program, matches: &ArgMatches<'_>) -> bool
     }
 }
 
-// The names of the FILE words, and how many stand before each transfer.
+// The names of the files, and how many of them stand before each transfer.
 fn parts(alloc: Global, matches: &ArgMatches<'_>) -> Result<(Vec<String>, Vec<u32>), AllocError>
     requires { files_fit (files_of (rows_of (found_of matches.now))) ≡ true }
     ensures { IfOk result (λ parts.
@@ -78,7 +78,7 @@ fn parts(alloc: Global, matches: &ArgMatches<'_>) -> Result<(Vec<String>, Vec<u3
     }
 }
 
-// The settings of a run, where each value is in its range.
+// The settings of a run, if each value is in its range.
 fn run_settings(
     alloc: Global,
     program: Program,
@@ -103,7 +103,7 @@ fn run_settings(
     })
 }
 
-// What clap finds in the words of a program, and the settings of a run that they say.
+// What clap finds in the arguments `words` of a program, and the settings of a run that they give.
 fn read<'a>(
     alloc: Global,
     program: Program,
@@ -133,7 +133,7 @@ fn read<'a>(
     }
 }
 
-/// The settings that the words of `psr_search` say. The first word is the program's name.
+/// The settings that the arguments of `psr_search` give. The first of `words` is the program's name.
 pub(crate) fn read_search(alloc: Global, words: &[String]) -> Result<Settings, WordFault>
     ensures says { IfOk result (λ s. SaySearch (map string_bytes words.now) (settings_seen s)) }
     ensures in_range { IfOk result (λ s. AllInRange (settings_seen s)) }
@@ -152,7 +152,7 @@ pub(crate) fn read_search(alloc: Global, words: &[String]) -> Result<Settings, W
     }
 }
 
-/// Those that the words of `psr_record` say.
+/// The settings that the arguments of `psr_record` give. The first of `words` is the program's name.
 pub(crate) fn read_record(alloc: Global, words: &[String]) -> Result<RunSettings, WordFault>
     ensures says { IfOk result (λ s. SayRecord (map string_bytes words.now) (run_seen s)) }
     ensures in_range { IfOk result (λ s. RunInRange (run_seen s)) }

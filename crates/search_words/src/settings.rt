@@ -1,4 +1,4 @@
-// The settings of the words.
+// The settings that arguments give.
 ghost use Rattle.std.specs.Prelude.{◌≢◌, map, string_bytes, Err, IfOk, IfErr};
 
 use crate::fault::WordFault;
@@ -6,33 +6,35 @@ use crate::reading::{read_record, read_search};
 use search_model::Search;
 use std::alloc::Global;
 
-/// The settings of a run, whatever it is for: how its data are read, shared out and recorded.
+/// The settings of a run, whatever it is for: how its data are read, shared and recorded.
 #[derive(Debug, Drop)]
 pub struct RunSettings {
-    /// How many buffers the data ring has.
+    /// The number of buffers of the data ring.
     pub buffers: u32,
-    /// The size of each, in bytes.
+    /// The size of each buffer, in bytes.
     pub size: u32,
-    /// How many threads work at once.
+    /// The number of threads that work at the same time.
     pub hands: u32,
-    /// A sixteenth of the turns that each actor takes in the first round of a session, which has 262144 at most.
+    /// The first round of a session has 16 times this number of turns for each actor, but at most 262144.
     pub turns: u32,
     /// Whether the data are recorded.
     pub recording: bool,
-    /// The most data bytes of a recorded file.
+    /// The largest number of data bytes of a recorded file.
     pub file_size: u64,
-    /// The most data bytes that are read.
+    /// The largest number of data bytes that are read.
     pub max_bytes: u64,
-    /// The names of the files of all transfers.
+    /// The names of the files of all transfers, in order.
     pub names: Vec<String>,
-    /// How many names stand before each transfer.
+    /// For each transfer, how many names stand before it.
     pub starts: Vec<u32>,
 }
 
-/// The settings of a search, and of the run that searches.
+/// The settings of a search, and those of the run that searches.
 #[derive(Debug, Drop)]
 pub struct Settings {
+    /// What is searched.
     pub search: Search,
+    /// How the data are read.
     pub run: RunSettings,
 }
 
@@ -41,7 +43,8 @@ impl Settings {
     ghost use Rattle.search_words.specs.Settings.{AllInRange, settings_seen, ExplainsSearch, SaySearch};
     ghost use Rattle.search_words.specs.declared.table.Program.TheVariants.{PsrSearch};
 
-    /// The settings that the words of `psr_search` say. The first word is the program's name.
+    /// The settings that the arguments of `psr_search` give, or why they are refused. The first of `words` is the
+    /// program's name.
     pub fn of(alloc: Global, words: &[String]) -> Result<Settings, WordFault>
         ensures says { IfOk result (λ s. SaySearch (map string_bytes words.now) (settings_seen s)) }
         ensures in_range { IfOk result (λ s. AllInRange (settings_seen s)) }
@@ -58,7 +61,8 @@ impl RunSettings {
     ghost use Rattle.search_words.specs.Settings.{RunInRange, run_seen, ExplainsRecord, SayRecord};
     ghost use Rattle.search_words.specs.declared.table.Program.TheVariants.{PsrRecord};
 
-    /// The settings that the words of `psr_record` say, which searches nothing. The first word is the program's name.
+    /// The settings that the arguments of `psr_record` give, or why they are refused. The first of `words` is the
+    /// program's name. `psr_record` searches nothing, so they have no `Search`.
     pub fn of_record(alloc: Global, words: &[String]) -> Result<RunSettings, WordFault>
         ensures says { IfOk result (λ s. SayRecord (map string_bytes words.now) (run_seen s)) }
         ensures in_range { IfOk result (λ s. RunInRange (run_seen s)) }

@@ -30,7 +30,7 @@ pub(crate) const OPTIONS: [Opt; 20] = [
 ];
 
 impl Opt {
-    /// Its row.
+    /// The row of the option in the table.
     pub(crate) fn row(self) -> Row
         ensures { result ≡ option_row self }
     {
@@ -63,7 +63,7 @@ impl Opt {
     }
 }
 
-/// A program that reads its words by this table.
+/// A program that reads its arguments by this table.
 #[derive(Clone, Copy)]
 pub(crate) enum Program {
     PsrSearch,
@@ -73,7 +73,7 @@ pub(crate) enum Program {
 impl Program {
     ghost use Rattle.search_words.specs.Command.{program_name};
 
-    /// Its name.
+    /// The name of the program.
     pub(crate) fn name(self) -> &'static str
         ensures { result.now ≡ program_name self }
     {
@@ -83,7 +83,7 @@ impl Program {
         }
     }
 
-    /// Whether it has the option, which takes a value.
+    /// Whether the program has the option, and the option takes a value.
     pub(crate) fn offers(self, opt: Opt) -> bool
         ensures { result ≡ offers_of self opt }
     {
@@ -95,7 +95,7 @@ impl Program {
         }
     }
 
-    /// Whether the words have to give the option.
+    /// Whether the option is required.
     pub(crate) fn demands(self, opt: Opt) -> bool
         ensures { result ≡ demands_of self opt }
     {

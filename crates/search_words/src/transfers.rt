@@ -1,4 +1,4 @@
-// The FILE words: names, parted into transfers by the words `+`.
+// The names of files, divided into transfers by the arguments `+`.
 ghost use Rattle.std.specs.Prelude.{◌≡◌, not, map, count_by, string_bytes, IfOk, true};
 ghost use Rattle.std.specs.List.{list_all};
 ghost use Rattle.clap.specs.Walk.{texts};
@@ -7,24 +7,24 @@ ghost use Rattle.search_words.specs.Transfers.{is_plus as is_plus_of, file_names
 use search_model::MOST_TRANSFERS;
 use std::alloc::{AllocError, Global};
 
-// The most names.
+// The largest number of names.
 const MOST_NAMES: usize = 65535;
 
-// Whether a word parts two transfers.
+// Whether an argument divides two transfers.
 fn is_plus(word: &str) -> bool
     ensures { result ≡ is_plus_of word.now }
 {
     word == "+"
 }
 
-// How many names there are.
+// The number of names.
 fn count_names(files: &[&str]) -> usize
     ensures { result ≡ count_by (λ word. not (is_plus_of word.now)) files.now }
 {
     files.iter().filter(|word| !is_plus(word)).count()
 }
 
-// How many words part transfers.
+// The number of arguments that divide transfers.
 fn count_pluses(files: &[&str]) -> usize
     ensures { result ≡ count_by (λ word. is_plus_of word.now) files.now }
 {
@@ -48,7 +48,7 @@ fn all_have_names(files: &[&str]) -> bool
     has_name
 }
 
-/// Whether the names and the transfers are as many as there may be, and each transfer has a name.
+/// Whether there are no more names and transfers than allowed, and each transfer has a name.
 pub(crate) fn files_fit(files: &[&str]) -> bool
     ensures { result ≡ files_fit_of (texts files.now) }
 {
@@ -61,8 +61,7 @@ pub(crate) fn files_fit(files: &[&str]) -> bool
     all_have_names(files)
 }
 
-/// Puts the names of all transfers into a list, and into another how many names stand before each
-/// transfer.
+/// The names of all transfers in one list, and for each transfer how many names stand before it.
 pub(crate) fn part(alloc: Global, files: &[&str]) -> Result<(Vec<String>, Vec<u32>), AllocError>
     requires { files_fit_of (texts files.now) ≡ true }
     ensures { IfOk result (λ parts.

@@ -11,7 +11,7 @@ use crate::table::{OPTIONS, Program};
 use crate::transfers::files_fit;
 use clap::ArgMatches;
 
-/// The first text that was found under a name.
+/// The first text that clap found under a name.
 pub(crate) fn text<'a>(matches: &ArgMatches<'a>, name: &str) -> Option<&'a str>
     ensures { option_map (λ text. text.now) result
         ≡ first_of name.now (rows_of (found_of matches.now)) }
@@ -19,7 +19,7 @@ pub(crate) fn text<'a>(matches: &ArgMatches<'a>, name: &str) -> Option<&'a str>
     matches.get_str(name)
 }
 
-// The word that was given for an option.
+// The text that was given for an option.
 fn given<'a>(program: Program, matches: &ArgMatches<'a>, opt: Opt) -> Option<&'a str>
     ensures { option_map (λ text. text.now) result
         ≡ given_word program (rows_of (found_of matches.now)) opt }
@@ -31,21 +31,21 @@ fn given<'a>(program: Program, matches: &ArgMatches<'a>, opt: Opt) -> Option<&'a
     }
 }
 
-// The value of an option, where it is in its row.
+// The value of an option, or `None` if it is out of its range.
 fn value(program: Program, matches: &ArgMatches<'_>, opt: Opt) -> Option<u64>
     ensures { result ≡ option_value program (rows_of (found_of matches.now)) opt }
 {
     opt.row().value_of(given(program, matches, opt))
 }
 
-/// The same as a number, which is 0 where the value is out of its row.
+/// The value of an option, or 0 if it is out of its range.
 pub(crate) fn number(program: Program, matches: &ArgMatches<'_>, opt: Opt) -> u64
     ensures { result ≡ option_number program (rows_of (found_of matches.now)) opt }
 {
     value(program, matches, opt).unwrap_or(0)
 }
 
-/// The same as a number of 32 bits.
+/// The value of an option as a number of 32 bits, or 0 if it is out of its range.
 pub(crate) fn small_number(program: Program, matches: &ArgMatches<'_>, opt: Opt) -> u32
     requires { greatest_of (option_row opt).limits < 2 ^ 32 }
     ensures { result ≡ option_number program (rows_of (found_of matches.now)) opt }
@@ -53,7 +53,7 @@ pub(crate) fn small_number(program: Program, matches: &ArgMatches<'_>, opt: Opt)
     number(program, matches, opt) as u32
 }
 
-/// The FILE words, where there are some.
+/// The names of the files and the `+` between transfers, or `None` if there are none.
 pub(crate) fn files<'m, 'a>(matches: &'m ArgMatches<'a>) -> Option<&'m [&'a str]>
     ensures { option_map (λ files. texts files.now) result
         ≡ all_of (option_name Opt.File) (rows_of (found_of matches.now)) }

@@ -67,7 +67,7 @@ ReadsRing true old new =
 ReadsRing false old new =
     Rests (header_view old) (header_view new) × TriesNext (data_view old) (data_view new)
 
--- one read: of the header ring where a header is next, and else of the data ring
+-- one read: of the header ring if a header is next, otherwise of the data ring
 abbrev pub ReadsNext : HduEnded → HduEnded → Type 0
 ReadsNext old new = ReadsRing (header_is_next old) old new
 
@@ -76,7 +76,7 @@ pub record HasRested (old new : HduEnded) : Type 0 where
   pub header : Rests (header_view old) (header_view new)
   pub blocks : Rests (data_view old) (data_view new)
 
--- of so many transfers, blocks come after those that it cleared
+-- blocks come after those that it cleared, if there are this many transfers
 abbrev pub HasMore : ℕ → HduEnded → Type 0
 HasMore transfers reader = is_over transfers (data_view reader).cleared ≡ false
 

@@ -27,27 +27,27 @@ abbrev pub StandsAt : Observation → ℕ → List Entry → EngineState → Typ
 StandsAt o transfer blocks e =
     Stands (nat_lt transfer (ended_transfers blocks)) o (transfer_bytes transfer blocks) e
 
--- it was fed as many bytes as its transfer has among the blocks, no more than these can hold, and has ended where the
--- transfer has
+-- an engine was fed as many bytes as its transfer has among the blocks, no more than these can
+-- hold, and has ended if the transfer has
 pub record IsEngineAt (size : ℕ) (blocks : List Entry) (transfer : ℕ) (e : EngineState) :
     Type 0 where
   pub ended : e.has_ended ≡ nat_lt transfer (ended_transfers blocks)
   pub fed : e.fed ≡ length (transfer_bytes transfer blocks)
   pub most : e.fed ≤ length blocks * size
 
--- so it is with each of the engines
+-- each engine was fed the bytes of its transfer among the blocks
 abbrev pub AreEnginesAt : ℕ → List Entry → List (Option EngineState) → Type 0
 AreEnginesAt size blocks engines = (k : ℕ) → k < length engines →
     (e : EngineState) × HasEngine engines k e × IsEngineAt size blocks k e
 
--- as the blocks became more, it was fed the bytes of its transfer that came
+-- from the blocks before to those after, an engine was fed the further bytes of its transfer
 pub record EngineFollows (transfer : ℕ) (before after : List Entry) (e f : EngineState) :
     Type 0 where
   pub same : SameShard f e
   pub scope : scope_of f ≡ scope_of e
   pub stands : (o : Observation) → StandsAt o transfer before e → StandsAt o transfer after f
 
--- each of the engines was, at its place
+-- from the blocks before to those after, each engine was fed the further bytes of its transfer
 pub record EnginesFollow (before after : List Entry) (old new : List (Option EngineState)) :
     Type 0 where
   pub count : length new ≡ length old
@@ -124,7 +124,7 @@ pub record KeepsEngines (x y : ShardActor) : Type 0 where
   pub done : y.done ≡ x.done
   pub ended : y.ended ≡ x.ended
 
--- one read of a shard: what it got was fed, and else its engines stand
+-- one read of a shard: its engines were fed what it read, or stand as they stood
 pub record ShardStepped (x y : ShardActor) : Type 0 where
   pub turns : y.turns ≡ x.turns
   pub read : ReadsNext x.pass y.pass

@@ -9,15 +9,15 @@ use dada_hdu::{BlockTaker, Mark};
 use search_engine::Engine;
 use search_model::MOST_TRANSFERS;
 
-/// The engines of a shard, one for each transfer in order. Each is `Some`. They lie on the heap: a bank is moved as one
-/// pointer.
+/// The engines of a shard, one for each transfer in order. They lie on the heap, so a bank is moved as one pointer.
 #[derive(Drop)]
 pub struct Bank {
+    /// The engine of each transfer. Each slot is `Some`.
     pub engines: Box<ArrayVec<Option<Engine>, MOST_TRANSFERS>>,
 }
 
-// Feeds the engine of a slot, and ends it after the last bytes. A chunk that was full before is searched first; one
-// that is full where these bytes end is left.
+// Feeds the engine of a slot, and ends it if these bytes are the last. A chunk that was full before is searched first;
+// one that becomes full at the end of these bytes is left.
 fn feed_slot(slot: &mut Option<Engine>, bytes: &[u8], is_last: bool)
     requires { (e : EngineState) × (slot.old ≡ Some e) × (e.has_ended ≡ false)
         × (e.fed + length bytes.now ≤ most_fed) }
@@ -32,7 +32,7 @@ fn feed_slot(slot: &mut Option<Engine>, bytes: &[u8], is_last: bool)
     }
 }
 
-// Feeds the engine of a transfer, and ends it after the last bytes.
+// Feeds the engine of a transfer, and ends it if these bytes are the last.
 fn feed_engine(engines: &mut [Option<Engine>], transfer: usize, bytes: &[u8], is_last: bool)
     requires { CanFeedAt engines.old transfer bytes.now }
     ensures { WasFedAt engines.old transfer bytes.now is_last engines.new }
@@ -40,7 +40,7 @@ fn feed_engine(engines: &mut [Option<Engine>], transfer: usize, bytes: &[u8], is
     feed_slot(&mut engines[transfer], bytes, is_last);
 }
 
-// The same for a list of engines.
+// Feeds the engine of a transfer in a list of engines, and ends it if these bytes are the last.
 fn feed_in(
     engines: &mut ArrayVec<Option<Engine>, MOST_TRANSFERS>,
     transfer: usize,
@@ -53,7 +53,7 @@ fn feed_in(
     feed_engine(engines.as_mut_slice(), transfer, bytes, is_last);
 }
 
-// Whether a transfer ends with this mark.
+// Whether a block with this mark is the last of its transfer.
 fn ends_transfer(mark: Mark) -> bool
     ensures { result ≡ is_end mark }
 {
@@ -64,8 +64,8 @@ fn ends_transfer(mark: Mark) -> bool
 }
 
 impl Bank {
-    // Feeds the engine of a transfer, and ends it after the last bytes. A chunk that was full before is searched first;
-    // one that is full where these bytes end is left.
+    // Feeds the engine of a transfer, and ends it if these bytes are the last. A chunk that was full before is searched
+    // first; one that becomes full at the end of these bytes is left.
     fn feed(&mut self, transfer: usize, bytes: &[u8], is_last: bool)
         requires { CanFeedAt (engines_of self.old) transfer bytes.now }
         ensures { WasFedAt (engines_of self.old) transfer bytes.now is_last
@@ -74,7 +74,7 @@ impl Bank {
         feed_in(&mut self.engines, transfer, bytes, is_last);
     }
 
-    /// Feeds the engine of a transfer so many bytes in front of a space. It does not end.
+    /// Feeds the engine of a transfer the first `used` bytes of a space. It does not end.
     pub(crate) fn feed_front(&mut self, transfer: usize, space: &[u8], used: usize)
         requires within { used ≤ length space.now }
         requires ready { CanFeedAt (engines_of self.old) transfer (take used space.now) }
@@ -84,7 +84,7 @@ impl Bank {
         self.feed(transfer, &space[..used], false);
     }
 
-    /// How many engines there are, eight at most.
+    /// The number of engines, at most eight.
     pub fn count(&self) -> usize
         ensures count { result ≡ length (engines_of self.now) }
         ensures most { result ≤ 8 }
@@ -92,8 +92,8 @@ impl Bank {
         self.engines.len()
     }
 
-    /// How many bytes the engine of a transfer takes, at the least, before the chunk that it holds is full. It is a
-    /// hint: no clause speaks of the answer.
+    /// At least this many bytes are needed to fill the chunk of a transfer's engine. It is a hint: no clause speaks of
+    /// the answer.
     pub(crate) fn room(&self, transfer: usize) -> u64 {
         match self.engines.get(transfer) {
             Some(Some(engine)) => engine.room(),
@@ -101,8 +101,8 @@ impl Bank {
         }
     }
 
-    /// What comes after a block that the engine of a transfer was fed: a chunk that is full is searched, and the engine
-    /// ends where the block, which has this mark, is the transfer's last.
+    /// Does what comes after a block that the engine of a transfer was fed: searches the chunk if it is full, and ends
+    /// the engine if the block, which has this mark, was the transfer's last.
     pub(crate) fn end_after(&mut self, transfer: usize, mark: Mark)
         requires { CanFeedAt (engines_of self.old) transfer [] }
         ensures { WasFedAt (engines_of self.old) transfer [] (is_end mark)
@@ -112,8 +112,8 @@ impl Bank {
     }
 }
 
-/// The engine of a transfer is fed from a block where it lies. It does not end, and leaves a chunk that is full where
-/// the block ends: the block is given back before that chunk and folds are searched.
+/// Feeds the engine of transfer `part` from a block where it lies in the ring. The engine does not end, and leaves a
+/// chunk that becomes full at the end of the block: the block is given back before that chunk and folds are searched.
 impl BlockTaker for Bank {
     ghost use Rattle.session_readers.specs.Banks.{CanFeed, WasFedBlock};
 

@@ -11,7 +11,7 @@ use crate::bank::Bank;
 use dada_hdu::{Hdu, HduEnded, HduReader, Taken};
 use std::thread;
 
-// Reads the next header and clears it. Where there is none it lets other threads run.
+// Reads the next header and clears it. If there is none, it lets other threads run.
 pub(crate) fn read_header(hdu: &Hdu, reader: &mut HduReader, space: &mut [u8])
     requires reads { ReadsBoth hdu.now reader.old }
     requires room { 65537 ≤ length space.old }
@@ -28,10 +28,13 @@ pub(crate) fn read_header(hdu: &Hdu, reader: &mut HduReader, space: &mut [u8])
     }
 }
 
-// Clears the next block of data, and feeds it to the engine of a transfer, which does not end, and leaves a chunk that
-// is full where the block ends. Other readers find the block busy no longer than it is unpacked, where it ends within
-// the engine's chunk, or else than it is copied to the space, where that has room for it; else they do while the engine
-// makes its passes. Where no block can be had (none is there, or another reader holds it) it lets other threads run.
+// Clears the next block of data, and feeds it to the engine of a transfer. The engine does not end, and leaves a chunk
+// that becomes full at the end of the block.
+//
+// Other readers wait while the block is unpacked, if it ends within the engine's chunk, or while it is copied, if the
+// space is large enough. Otherwise they wait for the engine's whole search of it.
+//
+// If no block can be had (there is none, or another reader holds it), it lets other threads run.
 pub(crate) fn feed_block(
     hdu: &Hdu,
     reader: &mut HduReader,
@@ -119,7 +122,7 @@ pub(crate) fn has_next(hdu: &Hdu, pass: &HduEnded) -> bool
     }
 }
 
-// The writer no longer waits for the reader.
+// Retires the reader: the writer no longer waits for it.
 pub(crate) fn retire(hdu: &Hdu, pass: HduEnded) -> HduEnded
     requires reads { EndedFromBoth hdu.now pass }
     requires stays { IsHereOrRetired pass }

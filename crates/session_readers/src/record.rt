@@ -7,13 +7,16 @@ use dada_recorder::{RecordEnd, RecordTurn, Recorder};
 use psr_base::Files;
 use std::thread;
 
-/// The recorder of a session, the reader of both rings by which it clears them, how many turns it took, up to the
-/// greatest u64, and how it ended, once it has.
+/// The recorder of a session, as one that takes turns.
 #[derive(Drop)]
 pub struct RecordActor<'a, F> {
+    /// The recorder.
     pub part: Recorder<'a, F>,
+    /// The reader of both rings by which it clears blocks.
     pub pass: HduEnded,
+    /// How many turns it took, at most `u64::MAX`.
     pub turns: u64,
+    /// How it ended, once it has.
     pub end: Option<RecordEnd>,
 }
 
@@ -21,7 +24,7 @@ impl<'a, F: Files> RecordActor<'a, F> {
     ghost use Rattle.session_readers.specs.Shards.{IsRetired};
     ghost use Rattle.session_readers.specs.Records.{RecordOn, RecordMoved};
 
-    /// Takes one turn: it records one block and clears it, or finds none and lets other threads run.
+    /// Takes one turn: records one block and clears it. If it finds none, it lets other threads run.
     pub fn turn(&mut self, hdu: &Hdu)
         requires on { RecordOn F.is_open hdu.now self.old }
         requires running { self.old.end ≡ None }
@@ -39,15 +42,15 @@ impl<'a, F: Files> RecordActor<'a, F> {
         }
     }
 
-    /// Whether a turn may read a block at this moment: it has not ended, and a next one lies in either ring. It is a
-    /// hint: no clause speaks of the answer.
+    /// Whether a turn may read a block at this moment: the recorder has not ended, and a next block lies in either
+    /// ring. It is a hint: no clause speaks of the answer.
     pub fn could_move(&self, hdu: &Hdu) -> bool
         requires { RecordOn F.is_open hdu.now self.now }
     {
         self.end.is_none() && has_next(hdu, &self.pass)
     }
 
-    /// The same recorder; once it ended, the writer of the rings no longer waits for it.
+    /// The recorder itself; once it ended, the writer of the rings no longer waits for it.
     pub fn retired(self, hdu: &Hdu) -> RecordActor<'a, F>
         requires { RecordOn F.is_open hdu.now self }
         ensures on { RecordOn F.is_open hdu.now result }

@@ -8,21 +8,24 @@ use dada_hdu::{Hdu, HduEnded, Mark};
 // Laws: they do nothing when they run, and the proofs use what they ensure.
 use stream_model::{ends_are_counted, entries_are_of_transfers};
 
-/// The shard of a search: one engine for each transfer, a reader of both rings, and the space that it reads headers to,
-/// and those blocks of data that end past the engine's chunk, where it has room for one. `turns` counts its turns, up
-/// to the greatest u64, and `done` the engines that ended; it has `ended` where no block comes after those that it
-/// cleared.
+/// The shard of a search, which takes turns.
 #[derive(Drop)]
 pub struct ShardActor {
+    /// The engine of each transfer.
     pub part: Bank,
+    /// The reader of both rings.
     pub pass: HduEnded,
+    /// Space for headers, and for blocks of data that end past the engine's chunk, if it is large enough for one.
     pub space: Vec<u8>,
+    /// How many turns it took, at most `u64::MAX`.
     pub turns: u64,
+    /// How many of its engines ended.
     pub done: u32,
+    /// Whether no block comes after those that it cleared.
     pub ended: bool,
 }
 
-// How many transfers end with this mark.
+// How many transfers end with a block of this mark: 1 or 0.
 fn ended_with(mark: Mark) -> u32
     ensures { result ≡ (if is_end mark then 1 else 0) }
 {
@@ -32,7 +35,7 @@ fn ended_with(mark: Mark) -> u32
     }
 }
 
-// Whether nothing comes after a block with this mark, where so many of the transfers have ended.
+// Whether nothing comes after a block with this mark, if `done` of the transfers have ended.
 fn ends_stream(mark: Mark, done: usize, transfers: usize) -> bool
     ensures { result ≡ (nat_le transfers done || is_cut mark) }
 {
@@ -46,11 +49,13 @@ impl ShardActor {
     ghost use Rattle.session_readers.specs.Reads.{header_is_next};
     ghost use Rattle.session_readers.specs.Shards.{shard_cleared, IsRetired, KeepsEngines, ShardOn, ShardMoved, ShardStepped};
 
-    /// Takes one turn. Before the data of each transfer it reads a header and clears it; else it clears a block of data
-    /// and feeds it to the engine of its transfer, which it ends after the last block. Where a block ends within the
-    /// chunk that the engine holds, it is unpacked where it lies, and a full chunk is searched once the block is
-    /// cleared. Where it ends past it, it is copied to the space, where that has room for one, and cleared before the
-    /// engine is fed; else the engine is fed where the block lies. A read that finds nothing lets other threads run.
+    /// Takes one turn. Before the data of each transfer it reads a header and clears it. Otherwise it clears a block of
+    /// data, feeds it to the engine of its transfer, and ends the engine after the last block.
+    ///
+    /// A block that ends within the engine's chunk is unpacked where it lies; a full chunk is searched once the block
+    /// is cleared. A block that ends past the chunk is copied to the space, if that is large enough, and cleared before
+    /// the engine is fed; otherwise the engine is fed where the block lies. A read that finds nothing lets other
+    /// threads run.
     #[tactic(auto, using(crate::proofs::Moves::shard_turned))]
     pub fn turn(&mut self, hdu: &Hdu)
         requires on { ShardOn hdu.now self.old }
@@ -82,9 +87,9 @@ impl ShardActor {
         read_header(hdu, reader, self.space.as_mut_slice());
     }
 
-    // Clears the next block of data, and feeds it to the engine of its transfer. The engine searches a chunk that is
-    // full, and ends, and so searches what is left and all folds, once the block is cleared: meanwhile other shards can
-    // take it, and the writer its buffer. No clause asks for the clear before that.
+    // Clears the next block of data, and feeds it to the engine of its transfer. The engine searches a full chunk, and
+    // ends, only once the block is cleared: meanwhile other shards can take the block, and the writer its buffer. No
+    // clause asks for that order.
     fn take_block(&mut self, hdu: &Hdu)
         requires on { ShardOn hdu.now self.old }
         requires running { self.old.ended ≡ false }
@@ -108,15 +113,15 @@ impl ShardActor {
         self.ended = ends_stream(taken.mark, self.done as usize, transfers);
     }
 
-    /// Whether a turn may read a block at this moment: it has not ended, and a next one lies in either ring. It is a
-    /// hint: no clause speaks of the answer.
+    /// Whether a turn may read a block at this moment: the shard has not ended, and a next block lies in either ring.
+    /// It is a hint: no clause speaks of the answer.
     pub fn could_move(&self, hdu: &Hdu) -> bool
         requires { ShardOn hdu.now self.now }
     {
         !self.ended && has_next(hdu, &self.pass)
     }
 
-    /// The same shard; once it ended, the writer of the rings no longer waits for it.
+    /// The shard itself; once it ended, the writer of the rings no longer waits for it.
     pub fn retired(self, hdu: &Hdu) -> ShardActor
         requires { ShardOn hdu.now self }
         ensures on { ShardOn hdu.now result }

@@ -35,7 +35,7 @@ pub record HasBoxes (s : Search) (first end : ℕ) (b : RowTails) : Type 0 where
   pub last_row : b.last + 1 ≡ end
   pub widest : b.widest ≡ s.widest
 
--- what always holds, where there is room for so many hits
+-- what always holds, if there is room for `capacity` hits
 pub record PulsesAreSound (p : PulseState) (thresholds : BoxThresholds) (capacity : ℕ)
     : Type 0 where
   pub range : SettingsInRange p.search
@@ -78,7 +78,7 @@ RowsStandFor y p m = (d : ℕ) → SearchesDelay p d → WideRowHas p.boxes d (f
 abbrev pub HitIsKept : (ℕ → ℕ → ℕ) → RowTails → ℕ → ℕ → Hit → Type 0
 HitIsKept y b m n hit = IsKept b hit.delay n (first_sums y hit.delay (m + n))
 
--- and it is of a delay below d
+-- a hit below delay d whose row is kept
 pub record IsHitBelow (y : ℕ → ℕ → ℕ) (b : RowTails) (m n d : ℕ) (hit : Hit) : Type 0 where
   pub delay : hit.delay < d
   pub kept : HitIsKept y b m n hit
@@ -93,7 +93,7 @@ pub record AddsHitsOf (d : ℕ) (old new : List Hit) : Type 0 where
 abbrev pub half_row : Halves → List ℕ
 half_row halves = plain_sums halves.upper.now halves.lower.now
 
--- they can be taken as the next path sums of delay d
+-- two halves can be taken as the next path sums of delay d
 pub record CanTakeHalves (p : PulseState) (d : ℕ) (halves : Halves) : Type 0 where
   pub delay : SearchesDelay p d
   pub long : HaveLength (length halves.upper.now) halves

@@ -27,16 +27,16 @@ pulse_of y s c u d w =
     if nat_le (d + w) (u + 1) && is_sought_end c u
     then if_detected (cells_in c) s (Pulse (c.first + u) d w (box_of y d u w)) else []
 
--- those of one end and one delay, by width
+-- the detected pulses of one end and one delay, by width
 abbrev pub pulses_of_delay : (ℕ → ℕ → ℕ) → Search → Sought → ℕ → ℕ → List Candidate
 pulses_of_delay y s c u d = flat_map (λ w. pulse_of y s c u d w) (widths s)
 
--- those of one end, by delay, from `first` up to, but without, `end`
+-- the detected pulses of one end, by delay, from `first` up to, but without, `end`
 abbrev pub pulses_of_end : (ℕ → ℕ → ℕ) → Search → Sought → ℕ → ℕ → ℕ → List Candidate
 pulses_of_end y s c first end u =
     flat_map (λ d. pulses_of_delay y s c u d) (range_with_len first (end - first))
 
--- those of so many ends, from spectrum `start` on
+-- the detected pulses of `count` ends from spectrum `start` on
 abbrev pub pulses_of_ends : (ℕ → ℕ → ℕ) → Search → Sought → ℕ → ℕ → ℕ → ℕ → List Candidate
 pulses_of_ends y s c first end start count =
     flat_map (λ u. pulses_of_end y s c first end u) (range_with_len start count)

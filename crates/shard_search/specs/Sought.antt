@@ -6,8 +6,9 @@ use Rattle.search_model.specs.declared.candidate.Candidate.TheVariants.{Pulse, F
 use Rattle.search_model.specs.Parts.{later}
 use Rattle.fold_search.specs.Cells.{CellCounts, Plain, Counted, AreFewCells, cells_by}
 
--- How many cells path sums add up; with which spectrum of the observation the rows begin; and which ends are searched,
--- as the observation counts them: those from `place` on and, where there is a limit, before it.
+-- What is sought: how many cells path sums add up; the spectrum of the observation with which the
+-- rows begin; and which ends are searched, as the observation counts them: those from `place` on,
+-- and before the limit if there is one.
 pub record Sought : Type 0 where
   pub counts : CellCounts
   pub first : ℕ
@@ -22,7 +23,7 @@ cells_in c = cells_by c.counts
 abbrev pub whole_of : ℕ → Sought
 whole_of n = record { counts = Plain n; first = 0; place = 0; until = None }
 
--- all ends, where a path sum of each delay adds up so many cells
+-- all ends; a path sum of each delay adds up as many cells as are counted
 abbrev pub counted_of : List ℕ → Sought
 counted_of counts =
     record { counts = Counted counts; first = 0; place = 0; until = None }
@@ -32,7 +33,7 @@ abbrev pub part_of : ℕ → ℕ → ℕ → ℕ → Sought
 part_of n first place until =
     record { counts = Plain n; first = first; place = place; until = Some until }
 
--- the same, without the ends before `place`
+-- what is sought, without the ends before `place`
 abbrev pub sought_from : ℕ → Sought → Sought
 sought_from place c = record {
   counts = c.counts;
@@ -41,7 +42,7 @@ sought_from place c = record {
   until = c.until;
 }
 
--- whether a spectrum comes before a limit, where there is one
+-- whether a spectrum comes before a limit; true if there is none
 abbrev pub is_before : Option ℕ → ℕ → Bool
 is_before None spectrum = true
 is_before (Some limit) spectrum = nat_lt spectrum limit
@@ -59,14 +60,15 @@ is_sought c (Fold _ _ _ _ _ _) = true
 abbrev pub sought_of : Sought → List Candidate → List Candidate
 sought_of c list = map (later c.first) (filter (is_sought c) list)
 
--- This can be sought in the rows of the delays below `end`: their path sums add up no more cells than there are over
--- so many channels, and the rows begin so early that their ends can be counted.
+-- This can be sought in the rows of the delays below `end`: their path sums add up no more cells
+-- than a path over `channels` channels has, and the rows begin so early that their ends can be
+-- counted.
 pub record CanBeSought (c : Sought) (channels end : ℕ) : Type 0 where
   pub cells : AreFewCells c.counts channels end
   pub early : c.first ≤ 2 ^ 61
 
--- of so many spectra, from spectrum `start` of the rows on, those from number `from` on and before number `to` are ends
--- that are sought
+-- of the `spectra` spectra from spectrum `start` of the rows on, exactly those from number `from`
+-- up to, but without, number `to` are ends that are sought
 pub record AreSoughtEnds (c : Sought) (start spectra from to : ℕ) : Type 0 where
   pub order : from ≤ to
   pub most : to ≤ spectra

@@ -32,7 +32,7 @@ pub record ShardState : Type 0 where
 unfoldable pub sums_of : Filterbank → List ℕ → ℕ → ℕ → ℕ
 sums_of f edges d u = path_sum f edges u d
 
--- those of delay d that end at spectrum d and after it, up to, but without, spectrum m
+-- the sums of delay d that end at spectrum d or later, up to, but without, spectrum m
 abbrev pub sums_from_delay : (ℕ → ℕ → ℕ) → ℕ → ℕ → List ℕ
 sums_from_delay y d m = map (λ i. y d (d + i)) (range_with_len 0 (m - d))
 
@@ -90,13 +90,13 @@ pub record HasStream (c : Carrying) : Type 0 where
   pub stream : Filterbank
   pub stands : carry.StandsForSamples c stream
 
--- and one that goes on with these rows
+-- a carry stands for a stream that goes on with these rows
 pub record ContinuesStream (c : Carrying) (rows : List ℕ) (spectra : ℕ) : Type 0 where
   pub stream : Filterbank
   pub stands : carry.StandsForSamples c stream
   pub next : AreNext c stream rows spectra
 
--- the same of a carry amid a pass over these rows
+-- a carry in the middle of a pass over these rows stands for a stream that goes on with them
 pub record PassesStream (c : Carrying) (rows : List ℕ) : Type 0 where
   pub stream : Filterbank
   pub stands : carry.StandsMidway c stream
@@ -135,12 +135,13 @@ pub record SumsAlike (s t : ShardState) : Type 0 where
   pub search : s.pulses.search ≡ t.pulses.search
   pub sought : s.pulses.sought ≡ t.pulses.sought
 
--- the pulses of a plan's delays that are sought and end at so many spectra, from spectrum `start` on
+-- the pulses of a plan's delays that are sought and end at the `spectra` spectra from spectrum
+-- `start` on
 abbrev pub pulses_of_plan : Filterbank → BandPlan → Search → Sought → ℕ → ℕ → List Candidate
 pulses_of_plan f p s c start count =
     pulses_of_ends (sums_of f p.edges) s c p.first (p.last + 1) start count
 
--- and their folds
+-- the folds of a plan's delays
 abbrev pub folds_of_plan : Filterbank → BandPlan → Search → Sought → List Candidate
 folds_of_plan f p s c = within_delays p.first (p.last + 1) (folds f p.edges (cells_in c) s)
 

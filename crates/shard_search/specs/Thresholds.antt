@@ -21,7 +21,8 @@ AreLeastSums s c first ws least_sums =
     slice_get least_sums (length ws * i + at) ≡ Some least →
     StandOutFrom (noise_of s) (slice_index ws at * cells_in c (first + i)) least
 
--- they are of all widths of a search, and of the delays from `first` up to, but without, `end`
+-- these are the thresholds of all widths of a search, for the delays from `first` up to, but
+-- without, `end`
 pub record AreThresholds
     (s : Search) (c : Sought) (first end : ℕ) (thresholds : BoxThresholds)
     : Type 0 where
@@ -42,6 +43,6 @@ pub record IsHit (s : Search) (c : Sought) (first end : ℕ) (hit : Hit) : Type 
 abbrev pub pulse_of_hit : (ℕ → ℕ → ℕ) → Search → Sought → ℕ → Hit → List Candidate
 pulse_of_hit y s c u hit = pulse_of y s c u hit.delay hit.width
 
--- those of several hits
+-- the detected pulses of several hits
 abbrev pub pulses_of_hits : (ℕ → ℕ → ℕ) → Search → Sought → ℕ → List Hit → List Candidate
 pulses_of_hits y s c u hits = flat_map (λ hit. pulse_of_hit y s c u hit) hits

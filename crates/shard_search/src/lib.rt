@@ -1,5 +1,5 @@
-//! The search of the delays of one shard in rows of samples, chunk by chunk: path sums, boxes and folds, and a book of
-//! what is sought there and detected.
+//! Searches the delays of one shard in rows of samples, chunk by chunk. The path sums are judged by boxes and folds,
+//! and what is detected is added to a book.
 #![tactic(auto)]
 
 mod laws;

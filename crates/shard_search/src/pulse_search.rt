@@ -1,4 +1,4 @@
-// The search for pulses in the path sums of a shard.
+// Searches for pulses in the path sums of a shard.
 ghost use Rattle.std.specs.Prelude.{◌≡◌, ◌≢◌, ℕ, ◌+◌, ◌-◌, ◌*◌, ◌^◌, ◌≤◌, ◌<◌, ◌++◌, [], true, false, All, List, IfOk, length, vec_len, vec_capacity, option_to_list};
 ghost use Rattle.std.specs.List.{flat_map, range_with_len};
 ghost use Rattle.box_sums.specs.Tails.{KeepsRow, AreAlike, IsNewest, IsKept};
@@ -23,7 +23,7 @@ use std::marker::Model;
 use box_sums::sums_add_values;
 use search_model::tests_detection;
 
-/// How many widths a box can have.
+/// The number of widths that a box can have.
 const MOST_WIDTHS: usize = 6;
 
 /// Boxes over the path sums of some delays, and the search for those that are detected.
@@ -61,8 +61,8 @@ impl Model for PulseSearch {
 }
 
 impl PulseSearch {
-    /// Takes the memory for the delays from `first` up to, but without, `end`, for rows of up to `chunk` path sums of
-    /// up to `bound`.
+    /// Takes the memory for the delays from `first` up to, but without, `end`, for rows of at most `chunk` path sums,
+    /// none above `bound`.
     pub(crate) fn open(
         alloc: Global,
         search: &Search,
@@ -103,14 +103,14 @@ impl PulseSearch {
         &self.sought
     }
 
-    /// Forgets the hits of the spectra before.
+    /// Forgets the hits of earlier spectra.
     pub(crate) fn begin(&mut self)
         ensures { self.new ≡ record self.old { hits = [] } }
     {
         self.hits.clear();
     }
 
-    /// Leaves out the pulses that end before spectrum `place` of the observation too.
+    /// From now on also leaves out the pulses that end before spectrum `place` of the observation.
     pub(crate) fn leave_out(&mut self, place: u64)
         ensures { self.new ≡ record self.old {
           sought = sought_from place self.old.sought;
@@ -121,8 +121,8 @@ impl PulseSearch {
         self.hits.clear();
     }
 
-    /// Takes the next path sums of a delay, which are the sums of two halves, where no pulse ends at any of them, and
-    /// says whether it did. Where not, a pulse may end at one, or that was not found out, and nothing is taken.
+    /// Takes the next path sums of delay `d`, the sums of two rows, if no pulse ends at any of them. Answers whether it
+    /// did. If not, nothing was taken: a pulse may end at one of them.
     pub(crate) fn take_quiet(&mut self, d: u32, halves: Halves<'_>) -> bool
         requires { CanTakeHalves self.old d halves }
         ensures same { self.new ≡ record self.old { boxes = self.new.boxes } }
@@ -150,8 +150,8 @@ impl PulseSearch {
         halves.bound() < least.unwrap_or(u32::MAX)
     }
 
-    /// Takes the next path sums of a delay, and notes the widths at which a box that ends at one of them may be
-    /// detected. At each other width none is.
+    /// Takes the next path sums of delay `d`, and notes the widths at which a box that ends at one of them may be
+    /// detected. No box of another width is.
     pub(crate) fn take(&mut self, d: u32, row: &[u32])
         requires delay { SearchesDelay self.old d }
         requires short { length row.now ≤ self.old.boxes.chunk }
@@ -188,8 +188,8 @@ impl PulseSearch {
         }
     }
 
-    /// Adds the detected boxes of the hits that end at those of the spectra that were taken last which are sought, to a
-    /// book: by end, then in the order in which the hits were noted. The first of the spectra is `start`.
+    /// Adds the detected boxes of all hits to a book, as far as they are sought and end at one of the `spectra` spectra
+    /// from `start` on: by end, then in the order in which the hits were noted.
     pub(crate) fn report(&self, start: u64, spectra: u32, book: &mut Book)
         requires short { spectra ≤ self.now.boxes.chunk }
         requires early { start + spectra < 2 ^ 62 }
@@ -207,7 +207,7 @@ impl PulseSearch {
         }
     }
 
-    // Adds those that end at the k-th of these spectra, which is sought.
+    // Adds the detected boxes that end at spectrum `start + k`, which is sought.
     fn report_end(&self, start: u64, k: u32, book: &mut Book)
         requires spectrum { k < self.now.boxes.chunk }
         requires early { start + k < 2 ^ 62 }
@@ -225,7 +225,7 @@ impl PulseSearch {
         }
     }
 
-    // Adds the box of a hit, if it begins at the delay or later and is detected.
+    // Adds the box of a hit that ends at spectrum `start + k`, if it doesn't begin before the delay and is detected.
     fn report_hit(&self, hit: &Hit, start: u64, k: u32, book: &mut Book)
         requires hit { IsHit self.now.search self.now.sought self.now.first self.now.end hit.now }
         requires spectrum { k < self.now.boxes.chunk }
@@ -260,7 +260,7 @@ impl PulseSearch {
     }
 }
 
-// Feeds the boxes with the next sums of row `d`, where they are wider than one sum.
+// Feeds the boxes with the next sums of row `d`, if `widest` is more than 1.
 fn feed_boxes(boxes: &mut Boxes, widest: u32, d: u32, row: &[u32])
     requires widest { widest ≡ boxes.old.widest }
     requires row { KeepsRow boxes.old d }
@@ -281,7 +281,7 @@ fn feed_boxes(boxes: &mut Boxes, widest: u32, d: u32, row: &[u32])
     }
 }
 
-// Keeps row `d`, which was taken last. Boxes of one sum are fed only then.
+// Keeps row `d`, which was taken last. If `widest` is 1, the row is fed only now.
 fn keep_row(boxes: &mut Boxes, widest: u32, d: u32, row: &[u32])
     requires widest { widest ≡ boxes.old.widest }
     requires row { KeepsRow boxes.old d }

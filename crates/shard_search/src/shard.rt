@@ -1,4 +1,4 @@
-// The search of a shard's path sums, chunk by chunk.
+// Searches the path sums of a shard, chunk by chunk.
 ghost use Rattle.std.specs.Prelude.{◌≡◌, ℕ, ◌+◌, ◌-◌, ◌*◌, ◌^◌, ◌≤◌, ◌<◌, ◌≢◌, ◌++◌, [], true, false, All, List, IfOk, length, drop, min};
 ghost use Rattle.band_paths.specs.Edges.{channels_of};
 ghost use Rattle.fdmt_carry.specs.Carrying.{AreNext, AreThere, IsOpened, IsStream, StandsForSamples, StandsMidway};
@@ -57,8 +57,9 @@ impl Model for ShardSearch {
 }
 
 impl ShardSearch {
-    /// Takes the memory for the delays from `first` up to, but without, `end`, over a band whose edges are in kHz, the
-    /// highest first, in chunks of up to `chunk` spectra of samples up to `max_sample`; and what is sought in them.
+    /// Takes the memory for the delays from `first` up to, but without, `end`, in spectra, for chunks of at most
+    /// `chunk` spectra of samples up to `max_sample`. `edges` are the edges of the channels in kHz, the highest first.
+    /// `sought` tells which pulses are looked for.
     pub fn open(
         alloc: Global,
         edges: &[u32],
@@ -97,9 +98,9 @@ impl ShardSearch {
         })
     }
 
-    /// Takes the next spectra, whose samples of channel `c` begin at `c` times the chunk, and adds the pulses that end
-    /// at them to a book. The row of each delay is searched as it is made. One that no fold needs, and at whose sums no
-    /// pulse can end, may be left out.
+    /// Takes the next `spectra` spectra, and adds the pulses that end at them to a book. The samples of channel `c`
+    /// begin at `c` times the chunk. The row of each delay is searched as it is made. It may be left out if no fold
+    /// needs it and no pulse can end at its sums.
     pub fn pass(&mut self, samples: Samples<'_>, spectra: u32, book: &mut Book)
         requires rows { length (values_of samples)
             ≡ channels_of self.old.carry.tables.plan.edges * self.old.carry.tables.chunk }
@@ -126,7 +127,7 @@ impl ShardSearch {
         self.pulses.report(start, spectra, book);
     }
 
-    // Takes the next spectra, so few, as `pass` does, but makes the tables of all nodes first, which stand after it.
+    // Takes the next spectra as `pass` does, but makes the rows of all nodes, which can be read after it. They are few.
     fn take_tables(&mut self, samples: Samples<'_>, spectra: u32, book: &mut Book)
         requires rows { AreThere self.old.carry (values_of samples) spectra }
         requires most { spectra ≤ self.old.carry.tables.most }
@@ -153,8 +154,8 @@ impl ShardSearch {
         self.pulses.report(start, spectra, book);
     }
 
-    /// Takes the next spectra as `pass` does, but the last of them, as many as there is room for, with the tables of
-    /// all nodes, which stand after it.
+    /// Takes the next spectra as `pass` does. For the last of them it makes the rows of all nodes, which can be read
+    /// after it; these are as many as there is room for.
     pub fn take(&mut self, samples: Samples<'_>, spectra: u32, book: &mut Book)
         requires rows { length (values_of samples)
             ≡ channels_of self.old.carry.tables.plan.edges * self.old.carry.tables.chunk }
@@ -173,7 +174,7 @@ impl ShardSearch {
         self.take_tables(samples.skip(before as usize), last, book);
     }
 
-    /// Adds the folds of all that was taken to a book.
+    /// Adds the folds of all spectra that were taken to a book.
     pub fn end(&mut self, book: &mut Book)
         requires { book.old.count + most_folds ≤ 2 ^ 63 }
         ensures same { self.new ≡ self.old }
@@ -187,7 +188,7 @@ impl ShardSearch {
         self.folds.end(self.pulses.sought().counts(), book);
     }
 
-    /// Before which spectrum of the observation all pulses were judged.
+    /// All pulses that end before this spectrum of the observation were judged.
     pub fn searched_to(&self) -> u64
         requires { self.now.carry.fed ≤ 2 ^ 48 }
         ensures { result ≡ self.now.pulses.sought.first + self.now.carry.fed }
@@ -195,7 +196,8 @@ impl ShardSearch {
         self.pulses.sought().first() + self.carry.fed()
     }
 
-    /// Leaves out the pulses that end before spectrum `place` of the observation too. All that was taken stays.
+    /// From now on also leaves out the pulses that end before spectrum `place` of the observation. All that was taken
+    /// stays.
     pub fn leave_out(&mut self, place: u64)
         ensures sought { self.new.pulses.sought ≡ sought_from place self.old.pulses.sought }
         ensures search { self.new.pulses.search ≡ self.old.pulses.search }
@@ -221,7 +223,7 @@ impl ShardSearch {
         self.pulses.sought().cells(delay)
     }
 
-    /// The carry.
+    /// The rows that are carried from chunk to chunk.
     pub fn carry(&self) -> &Carry
         ensures { result.now ≡ self.now.carry }
     {
@@ -229,7 +231,7 @@ impl ShardSearch {
     }
 }
 
-// The carry of a plan, with room for the tables of all nodes of a few spectra alone.
+// The carry of a plan, with room for the rows of all nodes over a few spectra only.
 fn open_carry(alloc: Global, plan: Plan, chunk: u32, max_sample: u32) -> Result<Carry, Memory>
     requires some { 1 ≤ chunk }
     requires short { chunk ≤ 65536 }
@@ -242,8 +244,8 @@ fn open_carry(alloc: Global, plan: Plan, chunk: u32, max_sample: u32) -> Result<
     Carry::open_passing(alloc, plan, chunk, most, max_sample)
 }
 
-// Makes and takes the rows of all delays in a pass, but for those that need not be taken; their sums end at spectrum
-// `start` and after it.
+// Makes the rows of all delays in a pass, and takes them; those that need not be made may be left out. Their sums end
+// at spectrum `start` and after it.
 fn pass_rows(
     pulses: &mut PulseSearch,
     folds: &mut FoldSearch,
@@ -288,8 +290,8 @@ fn pass_rows(
     }
 }
 
-// Takes the row of the next delay of a pass, without making it, where no pulse ends at its sums and no fold needs it,
-// and says whether it did.
+// Takes the row of the next delay of a pass without making it, if no pulse ends at its sums and no fold needs it.
+// Answers whether it did.
 fn take_quiet(pulses: &mut PulseSearch, folds: &FoldSearch, carry: &Carry, d: u32) -> bool
     requires delay { SearchesDelay pulses.old d }
     requires fold { HasDelay folds.now d }
@@ -314,7 +316,7 @@ fn take_quiet(pulses: &mut PulseSearch, folds: &FoldSearch, carry: &Carry, d: u3
     }
 }
 
-// Takes the rows of all delays of a carry, whose sums end at spectrum `start` and after it.
+// Takes the rows of all delays, which the carry has. Their sums end at spectrum `start` and after it.
 fn take_rows(
     pulses: &mut PulseSearch,
     folds: &mut FoldSearch,
@@ -347,7 +349,7 @@ fn take_rows(
     }
 }
 
-// Takes the row of a delay, whose sums end at spectrum `start` and after it.
+// Takes the row of delay `d`, whose sums end at spectrum `start` and after it.
 fn take_row(pulses: &mut PulseSearch, folds: &mut FoldSearch, row: &[u32], start: u64, d: u32)
     requires delay { SearchesDelay pulses.old d }
     requires fold { HasDelay folds.old d }
@@ -366,7 +368,7 @@ fn take_row(pulses: &mut PulseSearch, folds: &mut FoldSearch, row: &[u32], start
     take_folds(folds, row, start, d);
 }
 
-// Takes the row of a delay for its folds, where it is folded.
+// Takes the row of delay `d` for its folds, if it is folded.
 fn take_folds(folds: &mut FoldSearch, row: &[u32], start: u64, d: u32)
     requires fold { HasDelay folds.old d }
     requires small { All (λ x. x ≤ folds.old.bound) row.now }
@@ -382,7 +384,7 @@ fn take_folds(folds: &mut FoldSearch, row: &[u32], start: u64, d: u32)
     folds.take(d, from_delay(row, start, d));
 }
 
-// The sums of a row that end at spectrum `d` and after it, where the first ends at spectrum `start`.
+// The sums of a row that end at spectrum `d` or later. The first sum of the row ends at spectrum `start`.
 fn from_delay(row: &[u32], start: u64, d: u32) -> &[u32]
     ensures value { result.now ≡ drop (d - start) row.now }
     ensures small { (bound : ℕ) → All (λ x. x ≤ bound) row.now

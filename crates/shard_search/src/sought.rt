@@ -5,8 +5,8 @@ ghost use Rattle.shard_search.specs.Sought.{whole_of, counted_of, part_of, sough
 use fold_search::Cells;
 use std::marker::Model;
 
-/// What is sought in the rows of a shard: how many cells a path sum of each delay adds up, and which ends of pulses.
-/// They count from the first spectrum of the observation, also where the rows begin with a later one.
+/// What is sought in the rows of a shard: which ends of pulses, and how many cells a path sum of each delay adds up.
+/// Ends count from the first spectrum of the observation, even if the rows begin with a later one.
 #[derive(Drop)]
 pub struct Sought {
     cells: Cells,
@@ -15,7 +15,7 @@ pub struct Sought {
     until: Option<u64>,
 }
 
-/// Numbers of some spectra: those from the first on and before the second.
+/// A range of spectra: those from `from` up to, but without, `to`.
 #[derive(Clone, Copy)]
 pub(crate) struct Ends {
     pub(crate) from: u32,
@@ -36,7 +36,7 @@ impl Model for Sought {
 }
 
 impl Sought {
-    /// All ends, over all of so many channels.
+    /// All ends, in all of `channels` channels.
     pub fn whole(channels: u32) -> Sought
         ensures { result ≡ whole_of channels }
     {
@@ -48,7 +48,7 @@ impl Sought {
         }
     }
 
-    /// All ends, where a path sum of each delay, from 0 on, adds up so many cells.
+    /// All ends. A path sum of delay `d` adds up `counts[d]` cells.
     pub fn counted(counts: Vec<u32>) -> Sought
         ensures { result ≡ counted_of counts.items }
     {
@@ -60,8 +60,8 @@ impl Sought {
         }
     }
 
-    /// The ends from spectrum `place` of the observation up to, but without, spectrum `until`, over all of so many
-    /// channels; the rows begin with spectrum `first`.
+    /// The ends from spectrum `place` up to, but without, spectrum `until`, in all of `channels` channels. The rows
+    /// begin with spectrum `first`. All three count from the first spectrum of the observation.
     pub fn of_part(channels: u32, first: u64, place: u64, until: u64) -> Sought
         ensures { result ≡ part_of channels first place until }
     {
@@ -73,7 +73,7 @@ impl Sought {
         }
     }
 
-    /// Leaves out the ends before spectrum `place` of the observation too.
+    /// From now on also leaves out the ends before spectrum `place` of the observation.
     pub(crate) fn leave_out(&mut self, place: u64)
         ensures { self.new ≡ sought_from place self.old }
     {
@@ -95,14 +95,14 @@ impl Sought {
         &self.cells
     }
 
-    /// With which spectrum of the observation the rows begin.
+    /// The spectrum of the observation with which the rows begin.
     pub(crate) fn first(&self) -> u64
         ensures { result ≡ self.now.first }
     {
         self.first
     }
 
-    /// Which of so many spectra, from spectrum `start` of the rows on, are ends that are sought.
+    /// The ends that are sought among `spectra` spectra from spectrum `start` of the rows on, counted from `start`.
     pub(crate) fn ends(&self, start: u64, spectra: u32) -> Ends
         requires { self.now.first + start < 2 ^ 63 }
         ensures { AreSoughtEnds self.now start spectra result.from result.to }
@@ -114,7 +114,7 @@ impl Sought {
     }
 }
 
-// How many of so many spectra, from spectrum `start` on, come before a limit, where there is one.
+// How many of the `spectra` spectra from spectrum `start` on come before the limit; all if there is none.
 fn spectra_before(limit: Option<u64>, start: u64, spectra: u32) -> u32
     ensures most { result ≤ spectra }
     ensures before { (k : ℕ) → k < result → is_before limit (start + k) ≡ true }

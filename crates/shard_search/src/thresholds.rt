@@ -1,4 +1,4 @@
-// The least detected sums of boxes.
+// The thresholds of boxes: their smallest detected sums.
 ghost use Rattle.std.specs.Prelude.{◌≡◌, ℕ, ◌+◌, ◌-◌, ◌*◌, ◌^◌, ◌≤◌, ◌<◌, false, All, IfOk, OnOk, IfSome, length, slice_get, slice_index, option_to_list, Option, Some};
 ghost use Rattle.box_sums.specs.Rows.{IsWidth};
 ghost use Rattle.detect_rule.specs.Noise.{StandOutFrom};
@@ -24,20 +24,24 @@ use search_model::tests_detection;
 /// The widths that a box can have.
 const WIDTHS: [u32; 6] = [1, 2, 4, 8, 16, 32];
 
-/// A delay and a width at which a box that ends at one of the spectra taken last may be detected, and the least sum at
-/// which a box of that delay and width is detected.
+/// A delay and a width at which a box that ends at one of the last spectra may be detected.
 #[derive(Clone, Copy, Drop)]
 pub(crate) struct Hit {
+    /// The delay, in spectra.
     pub(crate) delay: u32,
+    /// The width, in path sums.
     pub(crate) width: u32,
+    /// The smallest sum of such a box that is detected.
     pub(crate) least: u32,
 }
 
-/// The widths of a search, and for each delay from the first on the least detected sum of each of them, where there is
-/// one. Those of one delay stand one behind the other, so that they lie in one or two lines of the cache.
+/// The widths of a search, and their thresholds for each delay. The thresholds of one delay are neighbours, so they lie
+/// in one or two cache lines.
 #[derive(Drop)]
 pub(crate) struct BoxThresholds {
+    /// The widths, from the narrowest on.
     pub(crate) widths: Vec<u32>,
+    /// For each delay from the first on, the smallest detected sum of each width, or `None` if no sum is detected.
     pub(crate) least_sums: Vec<Option<u32>>,
 }
 
@@ -63,7 +67,7 @@ impl BoxThresholds {
         Ok(BoxThresholds { widths, least_sums })
     }
 
-    /// The least detected sum of a box of delay `d` and of the width at a place, where there is one.
+    /// The smallest detected sum of a box of delay `d` and of width number `at`. `None` if no sum is detected.
     pub(crate) fn least(&self, first: u32, d: u32, at: usize) -> Option<u32>
         requires above { first ≤ d }
         requires width { at < length self.now.widths.items }
@@ -76,7 +80,7 @@ impl BoxThresholds {
         self.least_sums[self.widths.len() * (d - first) as usize + at]
     }
 
-    /// Those of all widths, from the narrowest on.
+    /// The smallest detected sums of all widths for delay `d`, from the narrowest on.
     pub(crate) fn leasts(&self, first: u32, d: u32) -> &[Option<u32>]
         requires above { first ≤ d }
         requires inside { length self.now.widths.items * (d - first)
@@ -105,7 +109,7 @@ fn widths_of(alloc: Global, search: &Search) -> Result<Vec<u32>, Memory>
     Ok(widths)
 }
 
-// The least detected sums of some widths, for the delays from `first` up to, but without, `end`.
+// The thresholds of these widths, for the delays from `first` up to, but without, `end`.
 fn open_sums(
     alloc: Global,
     search: &Search,
@@ -132,7 +136,7 @@ fn open_sums(
     Ok(sums)
 }
 
-// Adds the least detected sums of a delay, behind those of the delays before it.
+// Appends the thresholds of delay `d` to those of the delays before it.
 fn add_sums(
     sums: &mut Vec<Option<u32>>,
     search: &Search,
@@ -158,7 +162,7 @@ fn add_sums(
     Ok(())
 }
 
-// The least sum of a box of a width and of delay `d` that is detected; `None` where no sum below 2^32 is.
+// The smallest sum of a box of this width and of delay `d` that is detected. `None` if no sum below 2^32 is.
 fn least_sum(search: &Search, sought: &Sought, width: u32, d: u32) -> Option<u32>
     requires range { SettingsInRange search.now }
     requires cells { cells_in sought.now d < 2 ^ 14 }
@@ -174,9 +178,8 @@ fn least_sum(search: &Search, sought: &Sought, width: u32, d: u32) -> Option<u32
     rule.least(cells)
 }
 
-/// The hit of delay `d` and a width, where a box of these that ends in the row may be detected. The row is the one that
-/// was taken last, and `least` is their least detected sum, if there is one. Where there is no hit, no such box is
-/// detected.
+/// The hit of delay `d` and a width, if a box of these that ends in the row may be detected. `row` is the row that was
+/// taken last, and `least` its threshold. If the answer is `None`, no such box is detected.
 pub(crate) fn find_hit(
     boxes: &mut Boxes,
     row: &[u32],
@@ -209,7 +212,7 @@ pub(crate) fn find_hit(
     }
 }
 
-// Each box of a width that ends at one of the sums of a row, which was taken last, fits into 32 bits.
+// Law: each box of a width that ends in the row that was taken last fits into 32 bits.
 fn boxes_fit(boxes: &Boxes, row: &[u32], width: u32)
     requires width { IsWidth width }
     requires within { width ≤ boxes.now.widest }
@@ -220,8 +223,8 @@ fn boxes_fit(boxes: &Boxes, row: &[u32], width: u32)
     boxes.sums_fit();
 }
 
-// Whether a box of a width that ends at one of the sums of a row, which was taken last, may reach `least`. Where not,
-// none does. A box of one sum is that sum.
+// Whether a box of a width that ends in the row that was taken last may reach `least`. If the answer is `false`, none
+// does. A box of width 1 is a single sum.
 fn may_reach(boxes: &mut Boxes, row: &[u32], width: u32, least: u32) -> bool
     requires width { IsWidth width }
     requires within { width ≤ boxes.old.widest }

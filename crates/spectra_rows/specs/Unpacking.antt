@@ -38,13 +38,15 @@ pub record StandsForBytes (u : Unpacking) (bytes : List ℕ) (gone : ℕ) : Type
   pub rows : (c t : ℕ) → c < u.channels → t < u.whole
       → slice_index u.rows (c * u.chunk + t) ≡ (unpacked u bytes).value c (gone + t)
 
--- the same, whatever stands in the rows
+-- these bytes were taken since the opening, and the first `gone` of their spectra given up; the
+-- rows may have any values
 pub record HoldsBytes (u : Unpacking) (bytes : List ℕ) (gone : ℕ) : Type 0 where
   pub size : length bytes ≡ (gone + u.whole) * spectrum_bytes u + length u.part
   pub short : length u.part < spectrum_bytes u
   pub part : u.part ≡ drop ((gone + u.whole) * spectrum_bytes u) bytes
 
--- the same, where the rows have the samples of the channels that are kept, and 0 for all others
+-- these bytes were taken since the opening, and the first `gone` of their spectra given up; the
+-- rows have the samples of the channels that are kept, and 0 for all others
 pub record StandsForKept (kept : ℕ → Bool) (u : Unpacking) (bytes : List ℕ) (gone : ℕ)
     : Type 0 where
   pub holds : HoldsBytes u bytes gone
@@ -60,7 +62,7 @@ pub record IsWithout (channel : ℕ) (u v : Unpacking) : Type 0 where
   pub others : (k : ℕ) → (k < channel * u.chunk) ⊎ (channel * u.chunk + u.whole ≤ k)
       → slice_index v.rows k ≡ slice_index u.rows k
 
--- of so many channels this one is no longer kept, and all others as before
+-- one of the `channels` channels is no longer kept, all others are as before
 pub record LeavesOut (channels channel : ℕ) (kept less : ℕ → Bool) : Type 0 where
   pub channel_is : less channel ≡ false
   pub others : (c : ℕ) → c < channels → c ≢ channel → less c ≡ kept c

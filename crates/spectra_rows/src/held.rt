@@ -1,7 +1,7 @@
-// The bytes that are held, from the front of a buffer on.
+// Appends bytes to those that a buffer holds from its front on.
 ghost use Rattle.std.specs.Prelude.{◌≡◌, ◌+◌, ◌≤◌, ◌++◌, length, take};
 
-/// Puts further bytes behind those that are held.
+/// Writes `bytes` behind the first `filled` bytes of `held`.
 pub fn hold(held: &mut [u8], filled: usize, bytes: &[u8])
     requires { filled + length bytes.now ≤ length held.old }
     ensures { take (filled + length bytes.now) held.new ≡ take filled held.old ++ bytes.now }

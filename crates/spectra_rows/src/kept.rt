@@ -1,4 +1,4 @@
-// Rows as they are kept: of samples of 32 bits, or of bytes.
+// Rows of samples as they are stored: 32 bits a sample, or a byte.
 ghost use Rattle.std.specs.Prelude.{◌≡◌, ◌+◌, ◌*◌, ◌<◌, ◌≤◌, length};
 ghost use Rattle.search_model.specs.Samples.{sample_bytes};
 ghost use Rattle.spectra_rows.specs.Unpacking.{Keeps};
@@ -7,12 +7,12 @@ ghost use Rattle.spectra_rows.specs.Cells.{Silences, Unpacks};
 use crate::layout::Layout;
 use crate::rows::unpack;
 
-/// Rows of samples, one row behind the other.
+/// Rows of samples, one behind the other.
 #[derive(Drop)]
 pub enum Rows {
-    /// In 32 bits.
+    /// A sample has 32 bits.
     Words(Vec<u32>),
-    /// In a byte.
+    /// A sample is a byte.
     Bytes(Vec<u8>),
 }
 
@@ -20,7 +20,7 @@ impl Rows {
     ghost use Rattle.std.specs.Prelude.{true, false};
     ghost use Rattle.spectra_rows.specs.Kept.{are_bytes, samples_kept};
 
-    /// Whether they are rows of bytes.
+    /// Whether a sample is a byte.
     pub fn are_bytes(&self) -> bool
         ensures { result ≡ are_bytes self.now }
     {
@@ -30,7 +30,7 @@ impl Rows {
         }
     }
 
-    /// The rows of samples of 32 bits.
+    /// All rows of 32-bit samples.
     pub fn words(&self) -> &[u32]
         requires { are_bytes self.now ≡ false }
         ensures { result.now ≡ samples_kept self.now }
@@ -41,7 +41,7 @@ impl Rows {
         }
     }
 
-    /// The rows of bytes.
+    /// All rows of bytes.
     pub fn bytes(&self) -> &[u8]
         requires { are_bytes self.now ≡ true }
         ensures { result.now ≡ samples_kept self.now }
@@ -52,7 +52,7 @@ impl Rows {
         }
     }
 
-    /// Writes the first `count` spectra of the bytes behind the first `ready` places of the rows.
+    /// Unpacks the first `count` spectra of `bytes`. In each row their samples begin at place `ready`.
     pub fn unpack(&mut self, bytes: &[u8], layout: Layout, ready: usize, count: usize)
         requires chunk { ready + count ≤ layout.chunk }
         requires some { 0 < layout.channels }
@@ -73,7 +73,7 @@ impl Rows {
         }
     }
 
-    /// Sets so many samples from a place of the rows on to 0.
+    /// Sets `count` samples from place `at` on to 0.
     pub fn silence(&mut self, at: usize, count: usize)
         requires { at + count ≤ length (samples_kept self.old) }
         ensures kind { are_bytes self.new ≡ are_bytes self.old }

@@ -1,4 +1,5 @@
-//! Data bytes, cut anywhere, as rows of samples: a row for each channel, from the highest frequency down.
+//! Turns data bytes, in pieces of any length, into rows of samples: a row for each channel, from the highest frequency
+//! down.
 #![tactic(auto)]
 
 mod held;

@@ -1,4 +1,4 @@
-// Samples as rows keep them: in 32 bits, or in 8.
+// Two widths of a sample in a row: 32 bits and 8 bits.
 ghost use Rattle.std.specs.Prelude.{◌≡◌, ℕ, ◌+◌, ◌*◌, ◌<◌, ◌≤◌, List, length, slice_set, true, false, refl};
 ghost use Rattle.std.specs.Simd.Lanes.{put_chunk};
 ghost use Rattle.search_model.specs.Samples.{sample_bytes, sample_at};
@@ -8,15 +8,15 @@ use crate::layout::Layout;
 use crate::samples::sample;
 use std::simd::prelude::*;
 
-/// A sample as rows keep it.
+/// A sample as a row stores it.
 pub trait RowSample: Copy + Drop {
     // rows as numbers
     ghost numbers: { List Self → List ℕ };
 
-    // whether samples of so many bits and polarisations can be kept
+    // whether samples of these bits and polarisations fit
     ghost keeps: { ℕ → ℕ → Type 0 };
 
-    /// Writes sample `index` of the bytes at a place of the rows.
+    /// Writes sample `index` of `bytes` to place `at` of the rows.
     fn put(rows: &mut [Self], at: usize, bytes: &[u8], layout: Layout, index: usize)
         requires kept { keeps layout.nbit layout.npol }
         requires place { at < length rows.old }
@@ -24,7 +24,7 @@ pub trait RowSample: Copy + Drop {
         ensures { numbers rows.new
             ≡ slice_set (numbers rows.old) at (sample_at layout.nbit layout.npol bytes.now index) };
 
-    /// Writes sixteen bytes from a place of the rows on, each as a sample.
+    /// Writes sixteen bytes, each as a sample, from place `at` of the rows on.
     fn put_bytes(rows: &mut [Self], at: usize, values: u8x16)
         requires wide { length values ≡ 16 }
         requires place { at + 16 ≤ length rows.old }

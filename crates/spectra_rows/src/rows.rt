@@ -1,4 +1,4 @@
-// Spectra into rows. So few channels are turned at a time that what is written of their rows stays in a near cache.
+// Writes spectra into rows. Only a few channels are turned at a time, so that the places written stay in a near cache.
 ghost use Rattle.std.specs.Prelude.{◌≡◌, ◌+◌, ◌-◌, ◌*◌, ◌<◌, ◌≤◌, length, slice_index};
 ghost use Rattle.search_model.specs.Samples.{sample_bytes};
 ghost use Rattle.spectra_rows.specs.Cells.{AreInTile, WritesCells, cell, channel_place};
@@ -8,7 +8,7 @@ use crate::row_sample::RowSample;
 use crate::tile::{CHANNELS, SPECTRA, turned};
 use std::simd::prelude::*;
 
-// The row of the channel that stands at a place of a spectrum.
+// The row of the channel at place `place` of a spectrum.
 #[inline(always)]
 fn row_of(layout: Layout, place: usize) -> usize
     requires { place < layout.channels }
@@ -22,7 +22,7 @@ fn row_of(layout: Layout, place: usize) -> usize
     }
 }
 
-// Writes the bytes of sixteen spectra into the row of a channel.
+// Writes the values of sixteen spectra from `from` on into the row of the channel at place `place`.
 #[inline(always)]
 fn write_values<T: RowSample>(
     rows: &mut [T],
@@ -45,7 +45,7 @@ fn write_values<T: RowSample>(
     T::put_bytes(rows, at, values);
 }
 
-// Writes the bytes of sixteen spectra of 32 channels.
+// Writes sixteen spectra from `from` on, of the 32 channels from place `place` on. A sample is a byte.
 fn write_tile<T: RowSample>(rows: &mut [T], bytes: &[u8], layout: Layout, place: usize, from: usize)
     requires place { place + CHANNELS ≤ layout.channels }
     requires chunk { from + SPECTRA ≤ layout.chunk }
@@ -68,7 +68,8 @@ fn write_tile<T: RowSample>(rows: &mut [T], bytes: &[u8], layout: Layout, place:
     }
 }
 
-// The same of fewer channels. What a tile has beside these is not written.
+// Writes sixteen spectra from `from` on, of the channels at the places from `place` up to `end`: at most 32. The other
+// channels of the tile are not written.
 fn write_part<T: RowSample>(
     rows: &mut [T],
     bytes: &[u8],
@@ -99,7 +100,8 @@ fn write_part<T: RowSample>(
     }
 }
 
-// Writes these channels, sixteen spectra at a time, while a whole tile lies in the bytes. Says up to which spectrum.
+// Writes the channels at the places from `place` up to `end`, sixteen spectra at a time from `from` on, while `bytes`
+// contains a whole tile. Answers the first spectrum that it did not write.
 fn write_tiles<T: RowSample>(
     rows: &mut [T],
     bytes: &[u8],
@@ -136,7 +138,7 @@ fn write_tiles<T: RowSample>(
     done
 }
 
-// The same for samples of any kind: where each is a byte, tiles are written, and else nothing.
+// Does what `write_tiles` does, if a sample is one byte. Otherwise writes nothing, and answers `from`.
 fn begin_channels<T: RowSample>(
     rows: &mut [T],
     bytes: &[u8],
@@ -168,7 +170,7 @@ fn begin_channels<T: RowSample>(
     }
 }
 
-// Writes some samples of a spectrum one by one.
+// Writes one spectrum, sample by sample, for the channels at the places from `place` up to `end`.
 #[inline(always)]
 fn write_spectrum<T: RowSample>(
     rows: &mut [T],
@@ -197,7 +199,7 @@ fn write_spectrum<T: RowSample>(
     }
 }
 
-// Writes some samples of some spectra one by one.
+// Writes the spectra from `from` up to `to`, sample by sample, for the channels at the places from `place` up to `end`.
 fn write_spectra<T: RowSample>(
     rows: &mut [T],
     bytes: &[u8],
@@ -226,7 +228,7 @@ fn write_spectra<T: RowSample>(
     }
 }
 
-// Writes some spectra into the rows of the channels that stand at some places.
+// Writes the spectra from `from` up to `to` for the channels at the places from `place` up to `end`.
 fn write_channels<T: RowSample>(
     rows: &mut [T],
     bytes: &[u8],
@@ -253,7 +255,7 @@ fn write_channels<T: RowSample>(
     write_spectra(rows, bytes, layout, place, end, done, to);
 }
 
-/// Writes the first `count` spectra of the bytes into all rows.
+/// Writes the first `count` spectra of `bytes` into all rows, from the first place of each on.
 pub fn unpack<T: RowSample>(rows: &mut [T], bytes: &[u8], layout: Layout, count: usize)
     requires chunk { count ≤ layout.chunk }
     requires kept { T.keeps layout.nbit layout.npol }

@@ -1,9 +1,9 @@
-// Single samples of data bytes.
+// Reads single samples from data bytes.
 ghost use Rattle.std.specs.Prelude.{◌≡◌, ◌+◌, ◌*◌, ◌/◌, ◌<◌, ◌≤◌, ◌⊎◌, length};
 ghost use Rattle.search_model.specs.Samples.{value_at, sample_bytes, sample_at};
 ghost use Rattle.spectra_rows.specs.Unpacking.{AreValues};
 
-// The value of 8 or 16 bits that begins at a byte, its low byte first.
+// The value of `nbit` bits, 8 or 16, that begins at byte `at`. The low byte comes first.
 fn value(bytes: &[u8], nbit: u32, at: usize) -> u32
     requires bits { (nbit ≡ 8) ⊎ (nbit ≡ 16) }
     requires inside { at + nbit / 8 ≤ length bytes.now }
@@ -17,7 +17,7 @@ fn value(bytes: &[u8], nbit: u32, at: usize) -> u32
     }
 }
 
-/// Sample `index` of the bytes.
+/// Sample `index` of the bytes: the sum of its `npol` values.
 pub fn sample(bytes: &[u8], nbit: u32, npol: u32, index: usize) -> u32
     requires values { AreValues nbit npol }
     requires inside { (index + 1) * sample_bytes nbit npol ≤ length bytes.now }

@@ -1,22 +1,22 @@
-// Spectra of few channels, turned as vectors.
+// Transposes sixteen spectra of 32 channels with vectors.
 ghost use Rattle.std.specs.Prelude.{◌≡◌, ℕ, ◌+◌, ◌*◌, ◌/◌, ◌%◌, ◌<◌, ◌≤◌, length, slice_index, get_or, []};
 ghost use Rattle.spectra_rows.specs.Cells.{lane};
 
 use std::simd::prelude::*;
 
-/// How many channels a tile has.
+/// The number of channels of a tile.
 pub const CHANNELS: usize = 32;
 
-/// How many spectra a tile has.
+/// The number of spectra of a tile.
 pub const SPECTRA: usize = 16;
 
-// Where the first eight values of each half of two vectors stand, those of the one and of the other by turns.
+// Picks the first eight values of each half of two vectors, alternately from the one and the other.
 const FIRST: [usize; 32] = [
     0, 32, 1, 33, 2, 34, 3, 35, 4, 36, 5, 37, 6, 38, 7, 39, 16, 48, 17, 49, 18, 50, 19, 51, 20, 52,
     21, 53, 22, 54, 23, 55,
 ];
 
-// Where the last eight stand.
+// Picks the last eight values of each half of two vectors, alternately from the one and the other.
 const LAST: [usize; 32] = [
     8, 40, 9, 41, 10, 42, 11, 43, 12, 44, 13, 45, 14, 46, 15, 47, 24, 56, 25, 57, 26, 58, 27, 59,
     28, 60, 29, 61, 30, 62, 31, 63,
@@ -50,8 +50,8 @@ fn interleave_halves(tile: [u8x32; 16]) -> [u8x32; 16]
     ]
 }
 
-/// Of sixteen spectra, so many bytes apart, the bytes of 32 channels: vector c has channel c in its lower half and
-/// channel 16 + c in its upper one.
+/// The bytes of 32 channels in sixteen spectra, channel by channel. The first spectrum begins at byte `at`, the others
+/// `apart` bytes later each. Vector c has channel c in its lower half and channel 16 + c in its upper half.
 #[inline(always)]
 pub fn turned(bytes: &[u8], at: usize, apart: usize) -> [u8x32; 16]
     requires { at + 15 * apart + CHANNELS ≤ length bytes.now }

@@ -1,4 +1,4 @@
-// Bytes that are pushed, as rows.
+// Unpacks the bytes that are pushed into rows.
 ghost use Rattle.std.specs.Prelude.{◌≡◌, ℕ, ◌+◌, ◌-◌, ◌*◌, ◌<◌, ◌≤◌, ◌⊎◌, ◌++◌, Bool, true, false, List, [], length, take, min, slice_index, IfOk};
 ghost use Rattle.spectra_rows.specs.Unpacking.{AreValues, HoldsBytes, IsWithout, Keeps, LeavesOut, OpenedAlike, StandsForBytes, StandsForKept, Takes, Unpacking, byte_unpacking_of, held_bytes, spectrum_bytes, unpacked, unpacking_of};
 ghost use Rattle.spectra_rows.specs.Cells.{RowsAreSound};
@@ -12,20 +12,20 @@ use psr_base::Memory;
 use std::alloc::Global;
 use std::marker::Model;
 
-// About how many bytes are unpacked at a time. Each channel's are read one spectrum behind the other, so that more
-// would lie too far apart to be fetched before they are asked for.
+// About how many bytes are unpacked at a time. A channel is read spectrum by spectrum, so with more bytes the reads
+// would lie too far apart for the cache.
 const GROUP: usize = 131072;
 
-/// Data bytes that are pushed in pieces, as rows of samples of up to a chunk of spectra. Whole spectra become samples
-/// straight from what is pushed; only the bytes of a part of a spectrum are kept.
+/// Unpacks data bytes, pushed in pieces of any length, into rows of samples of at most `chunk` spectra. A complete
+/// spectrum is unpacked from the bytes pushed; only the bytes of an incomplete spectrum are copied and kept.
 #[derive(Drop)]
 pub struct Unpacker {
     layout: Layout,
     spectrum: usize,
-    // room for the bytes of a spectrum, of which so many are those of a part
+    // room for a spectrum, whose first `filled` bytes are those of an incomplete spectrum
     held: Vec<u8>,
     filled: usize,
-    // how many spectra the rows have
+    // how many spectra the rows contain
     ready: usize,
     rows: Rows,
 }
@@ -50,7 +50,7 @@ impl Model for Unpacker {
         (samples_kept u.rows) };
 }
 
-// How many spectra of so many bytes are unpacked at a time: those of whole tiles.
+// How many spectra of `spectrum` bytes each are unpacked at a time: a multiple of those of a tile.
 fn group_of(spectrum: usize) -> usize
     requires { 0 < spectrum }
     ensures { 0 < result }
@@ -58,7 +58,7 @@ fn group_of(spectrum: usize) -> usize
     (GROUP / spectrum / SPECTRA).max(1) * SPECTRA
 }
 
-// An unpacker with no byte, over rows with room for a chunk of spectra.
+// An unpacker without data, over rows with room for a chunk of spectra.
 fn over_rows(alloc: Global, layout: Layout, rows: Rows) -> Result<Unpacker, Memory>
     requires some_channels { 2 ≤ layout.channels }
     requires most_channels { layout.channels ≤ 4096 }
@@ -86,8 +86,9 @@ fn over_rows(alloc: Global, layout: Layout, rows: Rows) -> Result<Unpacker, Memo
 }
 
 impl Unpacker {
-    /// Takes the memory for up to `chunk` spectra of so many channels, whose frequency falls along a spectrum
-    /// or rises, of values of `nbit` bits and `npol` polarisations. The rows are of 32 bits.
+    /// Takes the memory for at most `chunk` spectra of `channels` channels. `falling`: whether the first value of a
+    /// spectrum is the one of the highest frequency. A value has `nbit` bits, a sample has `npol` values, and the rows
+    /// have 32 bits a sample.
     pub fn open(
         alloc: Global,
         channels: u32,
@@ -116,7 +117,8 @@ impl Unpacker {
         over_rows(alloc, layout, Rows::Words(rows))
     }
 
-    /// The same for values of 8 bits and one polarisation, which become rows of bytes.
+    /// Takes the memory for at most `chunk` spectra whose samples are single bytes: 8 bits and one polarisation. The
+    /// rows have a byte a sample. `falling`: whether the first value of a spectrum is the one of the highest frequency.
     pub fn open_bytes(
         alloc: Global,
         channels: u32,
@@ -141,8 +143,8 @@ impl Unpacker {
         over_rows(alloc, layout, Rows::Bytes(rows))
     }
 
-    /// Takes bytes until `chunk` spectra are whole or all bytes are taken, and answers how many it took. A part
-    /// of a spectrum is kept.
+    /// Takes bytes until `chunk` spectra are complete or all bytes are taken, and answers how many it took. The bytes
+    /// of an incomplete spectrum are kept for the next call.
     pub fn push(&mut self, bytes: &[u8]) -> usize
         ensures count { result ≡ min (self.old.chunk * spectrum_bytes self.old
             - held_bytes self.old) (length bytes.now) }
@@ -157,7 +159,7 @@ impl Unpacker {
         count
     }
 
-    // Takes bytes for which there is room.
+    // Takes all bytes. There is room for them.
     fn take(&mut self, bytes: &[u8])
         requires { held_bytes self.old + length bytes.now
             ≤ self.old.chunk * spectrum_bytes self.old }
@@ -169,7 +171,7 @@ impl Unpacker {
         self.keep_part(&rest[count..]);
     }
 
-    // Takes bytes as far as they belong to the spectrum of which a part is held.
+    // Takes the bytes that belong to the incomplete spectrum, if there is one, and answers how many they are.
     fn take_into_part(&mut self, bytes: &[u8]) -> usize
         requires { held_bytes self.old + length bytes.now
             ≤ self.old.chunk * spectrum_bytes self.old }
@@ -190,7 +192,7 @@ impl Unpacker {
         }
     }
 
-    // Takes the bytes that are missing in the spectrum of which a part is held.
+    // Completes the incomplete spectrum with `bytes`, and unpacks it.
     fn complete_part(&mut self, bytes: &[u8])
         requires room { self.old.whole < self.old.chunk }
         requires missing { length self.old.part + length bytes.now ≡ spectrum_bytes self.old }
@@ -204,7 +206,8 @@ impl Unpacker {
         self.filled = 0;
     }
 
-    // Takes whole spectra straight from the bytes, where no part of one is held before them.
+    // Unpacks all complete spectra of `bytes`, and answers how many bytes they have. Bytes are given only if no
+    // incomplete spectrum is kept.
     fn take_spectra(&mut self, bytes: &[u8]) -> usize
         requires room { held_bytes self.old + length bytes.now
             ≤ self.old.chunk * spectrum_bytes self.old }
@@ -222,7 +225,7 @@ impl Unpacker {
         done
     }
 
-    // How many bytes a spectrum has.
+    // The bytes of a spectrum.
     fn spectrum_bytes(&self) -> usize
         ensures size { result ≡ spectrum_bytes self.now }
         ensures some { 0 < result }
@@ -230,7 +233,7 @@ impl Unpacker {
         self.spectrum
     }
 
-    // Takes as many whole spectra as are unpacked at a time.
+    // Unpacks complete spectra, as many as are unpacked at a time, and answers how many bytes they have.
     fn take_group(&mut self, bytes: &[u8]) -> usize
         requires room { held_bytes self.old + length bytes.now
             ≤ self.old.chunk * spectrum_bytes self.old }
@@ -248,7 +251,7 @@ impl Unpacker {
         count * self.spectrum
     }
 
-    // Keeps bytes that make no spectrum whole.
+    // Keeps bytes that don't complete a spectrum.
     fn keep_part(&mut self, bytes: &[u8])
         requires room { held_bytes self.old + length bytes.now
             ≤ self.old.chunk * spectrum_bytes self.old }
@@ -260,7 +263,7 @@ impl Unpacker {
         self.filled += bytes.len();
     }
 
-    /// How many whole spectra are held: those that were pushed and not given up.
+    /// The number of complete spectra: those that were pushed and not given up.
     pub fn spectra(&self) -> u32
         ensures whole { result ≡ self.now.whole }
         ensures room { result ≤ self.now.chunk }
@@ -272,15 +275,15 @@ impl Unpacker {
         self.ready as u32
     }
 
-    /// Whether the rows are rows of bytes.
+    /// Whether the rows have a byte a sample.
     pub fn in_bytes(&self) -> bool
         ensures { result ≡ self.now.in_bytes }
     {
         self.rows.are_bytes()
     }
 
-    /// The samples of the spectra that are held, of 32 bits: a row of `chunk` places for each channel, the highest
-    /// frequency first. The values past the spectra that are held mean nothing.
+    /// The samples of the complete spectra, of 32 bits: a row of `chunk` places for each channel, the highest frequency
+    /// first. Past the complete spectra a row has no meaning.
     pub fn rows(&self) -> &[u32]
         requires { self.now.in_bytes ≡ false }
         ensures rows { result.now ≡ self.now.rows }
@@ -293,7 +296,8 @@ impl Unpacker {
         self.rows.words()
     }
 
-    /// The same where the rows are rows of bytes.
+    /// The samples of the complete spectra, a byte each: a row of `chunk` places for each channel, the highest
+    /// frequency first. Past the complete spectra a row has no meaning.
     pub fn byte_rows(&self) -> &[u8]
         requires { self.now.in_bytes ≡ true }
         ensures rows { result.now ≡ self.now.rows }
@@ -306,8 +310,8 @@ impl Unpacker {
         self.rows.bytes()
     }
 
-    /// Sets the row of a channel, counted from the highest frequency, to 0 in the spectra that are held. Spectra that
-    /// are pushed later are not touched.
+    /// Sets the row of `channel`, counted from the highest frequency, to 0 in the complete spectra. Spectra that are
+    /// completed later are not changed.
     pub fn silence(&mut self, channel: u32)
         requires { channel < self.old.channels }
         ensures without { IsWithout channel self.old self.new }
@@ -321,7 +325,7 @@ impl Unpacker {
             .silence(channel as usize * self.layout.chunk, self.ready);
     }
 
-    /// Gives up the whole spectra that are held. A part of a spectrum is kept.
+    /// Gives up the complete spectra. The bytes of an incomplete spectrum are kept.
     pub fn taken(&mut self)
         ensures part { self.new ≡ record self.old { whole = 0 } }
         ensures given_up { (bytes : List ℕ) (gone : ℕ) → StandsForBytes self.old bytes gone

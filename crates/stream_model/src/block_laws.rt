@@ -2,32 +2,32 @@
 // its function.
 ghost use Rattle.stream_model.specs.BlockLaws.{BytesAreJoined, StreamsAreShort, StreamsGrow, StreamsBegin, EndsAreCounted, StreamsStopOnce, EntriesAreOfTransfers, StreamsHaveTransfers};
 
-/// The joined bytes of a whole stream are its data.
+/// The bytes of a whole stream, joined, are its data.
 pub fn bytes_are_joined()
     ensures { BytesAreJoined }
 {}
 
-/// Data within a limit take at most as many blocks as the limit has, and one more for each transfer.
+/// Data within a limit take at most as many blocks as the limit has bytes for, and one more for each transfer.
 pub fn streams_are_short()
     ensures { StreamsAreShort }
 {}
 
-/// More data change no block that is full, and a further transfer changes no entry.
+/// More data change no full block, and a further transfer changes no entry before it.
 pub fn streams_grow()
     ensures { StreamsGrow }
 {}
 
-/// What was sealed begins the stream, however it goes on.
+/// What was sealed is a beginning of the stream, however the stream goes on.
 pub fn streams_begin()
     ensures { StreamsBegin }
 {}
 
-/// How many transfers have ended, and whether a stream was given up.
+/// Law: how many transfers have ended in a stream, and whether it was given up.
 pub fn ends_are_counted()
     ensures { EndsAreCounted }
 {}
 
-/// A beginning of a stream that is over is all of it.
+/// If a beginning of a stream is over, it is the whole stream.
 pub fn streams_stop_once()
     ensures { StreamsStopOnce }
 {}
@@ -37,7 +37,7 @@ pub fn entries_are_of_transfers()
     ensures { EntriesAreOfTransfers }
 {}
 
-/// The bytes of a transfer in a whole stream are its data.
+/// The bytes of a transfer in a whole stream are the data of that transfer.
 pub fn streams_have_transfers()
     ensures { StreamsHaveTransfers }
 {}

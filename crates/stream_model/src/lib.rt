@@ -1,6 +1,7 @@
 //! How the data of an observation go through a ring, as streams of marked blocks, and which data the files of a stream
-//! give. All is stated over data alone.
-//! The definitions are in `specs/`: `Blocks`, `Walk` and `Recorded`; laws about them are in `BlockLaws`, `WalkLaws` and
+//! give. All definitions are about data alone.
+//!
+//! They are in `specs/`: `Blocks`, `Walk` and `Recorded`; laws about them are in `BlockLaws`, `WalkLaws` and
 //! `RecordedLaws`.
 #![tactic(auto)]
 

@@ -10,7 +10,7 @@ use dada_model::{
     numbers_are_spelled,
 };
 
-/// Texts that are alike stay so where a key gets values of one width.
+/// If two texts are alike, they stay so if a key gets values of one width in both.
 pub fn changes_stay_alike()
     ensures { ChangesStayAlike }
 {
@@ -21,14 +21,14 @@ pub fn changes_stay_alike()
     blank_keeps_length();
 }
 
-/// Where a recording isn't refused, the header of each file has room for its changes.
+/// If a recording isn't refused, the header of each file has room for its changes.
 pub fn each_header_has_room()
     ensures { EachHeaderHasRoom }
 {
     changes_stay_alike();
 }
 
-/// The header of a recorded file has its own numbers, and else the values of the transfer's.
+/// The header of a recorded file has numbers of its own, and otherwise the values of the transfer's header.
 pub fn headers_keep_values()
     ensures { HeadersKeepValues }
 {
@@ -37,7 +37,7 @@ pub fn headers_keep_values()
     changed_is_read_back();
 }
 
-/// The header of a recorded file has the transfer's observation, at its own offset.
+/// The header of a recorded file has the transfer's observation, at an offset of its own.
 pub fn headers_keep_observation()
     ensures { HeadersKeepObservation }
 {
@@ -47,7 +47,7 @@ pub fn headers_keep_observation()
     accepted_by_rows();
 }
 
-/// Fed in order, the recorded files of whole transfers are a whole stream with the data of each.
+/// The recorded files of whole transfers, fed in order, are a whole stream with the data of each transfer.
 pub fn recorded_transfers_give_the_data()
     ensures { RecordedTransfersGiveTheData }
 {
@@ -62,7 +62,7 @@ pub fn recorded_transfers_give_the_data()
     no_stop_is_whole();
 }
 
-/// Fed in order, the recorded files of a whole transfer are a whole stream with the same data.
+/// The recorded files of a whole transfer, fed in order, are a whole stream with the data of the transfer.
 pub fn recorded_files_give_the_data()
     ensures { RecordedFilesGiveTheData }
 {

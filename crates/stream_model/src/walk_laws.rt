@@ -5,7 +5,7 @@ ghost use Rattle.stream_model.specs.WalkLaws.{HeadersContinue, AcceptedIsLater, 
 // Laws: they do nothing when they run, and the proofs use what they ensure.
 use dada_model::{accepted_by_rows, accepted_is_in_range};
 
-/// A header stops no walk exactly where its file continues its transfer.
+/// A header stops no walk exactly if its file continues its transfer.
 pub fn headers_continue()
     ensures { HeadersContinue }
 {}
@@ -26,7 +26,7 @@ pub fn first_files_continue()
     headers_continue();
 }
 
-/// A walk is whole exactly where no header stops it and the data of all files are within the limit.
+/// A walk is whole exactly if no header stops it and the data of all files are within the limit.
 pub fn whole_exactly()
     ensures { WholeExactly }
 {}
@@ -41,27 +41,28 @@ pub fn no_stop_is_whole()
     ensures { NoStopIsWhole }
 {}
 
-/// A file from the first to the last of a transfer is in that transfer.
+/// A file from the first to the last one of a transfer is in that transfer.
 pub fn files_are_in_transfers()
     ensures { FilesAreInTransfers }
 {}
 
-/// One file more adds its data.
+/// With one file more, the data of some files grow by the data of that file.
 pub fn data_grow()
     ensures { DataGrow }
 {}
 
-/// The data of some files and those of the files after them are those of all.
+/// The data of some files, joined to the data of the files after them, are the data of all of these.
 pub fn data_join()
     ensures { DataJoin }
 {}
 
-/// Where there are no files, there are no data.
+/// No files have no data.
 pub fn data_none()
     ensures { DataNone }
 {}
 
-/// The data of the transfers before a file's, and of the files before it in its own, are those of all files before it.
+/// The data of the transfers before that of a file, joined to the data of the files before it in its own transfer, are
+/// the data of all files before it.
 pub fn transfers_join()
     ensures { TransfersJoin }
 {}
@@ -71,7 +72,7 @@ pub fn walk_joins_data()
     ensures { WalkJoinsData }
 {}
 
-/// One transfer more adds its data.
+/// With one transfer more, the data of the transfers grow by the data of that transfer.
 pub fn one_transfer_more()
     ensures { OneTransferMore }
 {}

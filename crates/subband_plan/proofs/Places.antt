@@ -1,31 +1,6 @@
 -- Where things begin that stand one after another.
-use Rattle.std.proofs.Common.{◌≡◌, ℕ, ◌+◌, ◌-◌, ◌*◌, ◌≤◌, ◌<◌, List, [], ◌∷◌, ◌++◌, length, slice_index, arith, zero, suc, sym, ap, ◌∙◌, inl, inr, length-append}
-use Rattle.std.proofs.Math.ListN.{get_or-append}
-use Rattle.std.proofs.Math.Seq.{get_or-append_seam}
-use Rattle.std.proofs.lemmas.Bool.{cases_lt}
+use Rattle.std.proofs.Common.{◌≡◌, ℕ, ◌+◌, ◌-◌, ◌*◌, ◌≤◌, ◌<◌, List, slice_index, arith, zero, suc}
 use Rattle.subband_plan.specs.Rows.{ArePlaces}
-
--- one more
-pub places_more : (size : ℕ → ℕ) (count : ℕ) (places : List ℕ) (v : ℕ) → ArePlaces size count places →
-    v ≡ slice_index places count + size count → ArePlaces size (count + 1) (places ++ v ∷ [])
-places_more size count places v are is =
-    let entries = are.entries in
-    let more = length-append places (v ∷ []) in
-    record {
-      entries = omega arith;
-      first = get_or-append places (v ∷ []) 0 0 (omega arith) ∙ are.first;
-      next = λ k h. elim (cases_lt k count) [
-        | inl old ↦
-            get_or-append places (v ∷ []) 0 (k + 1) (omega arith) ∙ are.next k old
-            ∙ ap (λ x. x + size k) (sym (get_or-append places (v ∷ []) 0 k (omega arith)))
-        | inr last ↦
-            let here : k ≡ count = omega arith in
-            let seam : k + 1 ≡ length places = omega arith in
-            ap (λ i. slice_index (places ++ v ∷ []) i) seam ∙ get_or-append_seam places v [] 0 ∙ is
-            ∙ ap (λ i. slice_index places i + size i) (sym here)
-            ∙ ap (λ x. x + size k) (sym (get_or-append places (v ∷ []) 0 k (omega arith)))
-      ];
-    }
 
 -- where no size is above `most`
 pub places_few : (size : ℕ → ℕ) (count most : ℕ) (places : List ℕ) → ArePlaces size count places →

@@ -12,8 +12,8 @@ use Rattle.subband_plan.specs.Nodes.{BandPlan, IsPlan, IsBranch, HasRow, split_o
 abbrev pub lower_number : Node → ℕ → ℕ
 lower_number n k = k + 2 * (middle n.lo n.hi - n.lo)
 
--- node k with what lies below it: the halves stand where they are looked for, and all below it
--- comes before node k + 2 * its channels - 1
+-- node k and all below it: its halves have the numbers expected, and all below it comes before node
+-- k + 2 * its channels - 1
 pub record IsLaid (edges : List ℕ) (nodes : List Node) (k : ℕ) (n : Node) : Type 0 where
   pub branch : IsBranch edges n
   pub below : k + 2 * (n.hi - n.lo) ≤ length nodes + 1
@@ -31,7 +31,7 @@ abbrev pub PlansAreLaid : Type 0
 PlansAreLaid =
     (p : BandPlan) → IsPlan p → (AreLaid p.edges (nodes_of p)) × (node_at (nodes_of p) 0 ≡ root p)
 
--- of a node's row, the rows that it asks of the halves are rows of theirs
+-- the rows that a node's row is made of are rows of its halves
 pub record HalvesHave (edges : List ℕ) (n : Node) (d : ℕ) : Type 0 where
   pub part : split_of edges n d ≤ d
   pub upper : HasRow (upper_half edges n) (split_of edges n d)

@@ -17,7 +17,7 @@ pub record BandPlan : Type 0 where
   pub first : ℕ
   pub last : ℕ
 
--- the part of a node's delay d that its upper half gets
+-- the part of a node's delay d that lies in its upper half
 unfoldable pub split_of : List ℕ → Node → ℕ → ℕ
 split_of edges n d = split_at edges n.lo n.hi d
 
@@ -32,7 +32,7 @@ upper_half edges n = record {
   tail = n.last_row - split_of edges n n.last_row;
 }
 
--- the lower half gets what is left of each delay
+-- the lower half has what is left of each delay
 abbrev pub lower_half : List ℕ → Node → Node
 lower_half edges n = record {
   lo = middle n.lo n.hi;
@@ -75,7 +75,7 @@ node_at nodes k =
 abbrev pub row_count : Node → ℕ
 row_count n = n.last_row + 1 - n.first_row
 
--- how many values the rows of a node have in chunks of so many spectra, with `tail` more for each
+-- how many values the rows of a node have: `chunk` each, and `tail` more
 abbrev pub word_count : ℕ → Node → ℕ
 word_count chunk n = row_count n * (chunk + n.tail)
 
@@ -97,8 +97,8 @@ pub record HasRow (n : Node) (d : ℕ) : Type 0 where
   pub least : n.first_row ≤ d
   pub most : d ≤ n.last_row
 
--- the least delay of a node's kept rows; those of one or two channels begin at delay 0, since each
--- is made of the one before
+-- the smallest delay of a node's kept rows; those of one or two channels begin at delay 0, because
+-- each is made of the one before
 unfoldable pub least_row : Node → ℕ
 least_row n = if nat_le 3 (n.hi - n.lo) then n.first_row else 0
 
@@ -107,7 +107,7 @@ pub record HasKept (n : Node) (d : ℕ) : Type 0 where
   pub least : least_row n ≤ d
   pub most : d ≤ n.last_row
 
--- how many rows it keeps
+-- how many rows a node keeps
 abbrev pub kept_count : Node → ℕ
 kept_count n = n.last_row + 1 - least_row n
 

@@ -7,7 +7,7 @@ use Rattle.subband_plan.specs.Nodes.{BandPlan, IsPlan, nodes_of}
 abbrev pub band_plan : List ℕ → ℕ → ℕ → BandPlan
 band_plan edges first last = record { edges = edges; first = first; last = last }
 
--- the nodes of the plan are there
+-- the nodes kept are those of the plan
 pub record HoldsNodes (p : BandPlan) (nodes : List Node) : Type 0 where
   pub plan : IsPlan p
   pub value : nodes ≡ nodes_of p

@@ -34,12 +34,13 @@ abbrev pub RowsAreNumbered : Type 0
 RowsAreNumbered = (edges : List ℕ) (nodes : List Node) (starts : List ℕ) → AreLaid edges nodes →
     AreStarts nodes starts → AreNumbered edges nodes starts
 
--- row q is of a node of a greater number than that of row r, or of the same node and before row r
+-- row q is of a node with a greater number than that of row r, or of the same node and before row r
 pub record IsBelow (rows : PlanRows) (r q : ℕ) : Type 0 where
   pub node : node_of rows r ≤ node_of rows q
   pub before : node_of rows q ≡ node_of rows r → q < r
 
--- both rows that a row is made of are
+-- both rows that row r is made of are of nodes with greater numbers, or before row r in its own
+-- node
 pub record AreBelow (rows : PlanRows) (r : ℕ) (m : Merge) : Type 0 where
   pub upper : IsBelow rows r m.upper
   pub lower : IsBelow rows r m.lower

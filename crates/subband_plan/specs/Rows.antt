@@ -15,7 +15,7 @@ use Rattle.subband_plan.specs.declared.rows.PlanRows.{PlanRows}
 use Rattle.subband_plan.specs.Nodes.{BandPlan, HasKept, least_row, kept_count, split_of, nodes_of, node_at}
 use Rattle.subband_plan.specs.NodeLaws.{lower_number}
 
--- where things of these sizes begin that stand one after another, and where the last one ends
+-- where things of these sizes begin that follow one another, and where the last one ends
 pub record ArePlaces (size : ℕ → ℕ) (count : ℕ) (places : List ℕ) : Type 0 where
   pub entries : length places ≡ count + 1
   pub first : slice_index places 0 ≡ 0
@@ -50,9 +50,9 @@ pub record IsMadeOfOne (nodes : List Node) (starts : List ℕ) (k d : ℕ) (s : 
   pub next : (e : ℕ) → d ≡ e + 1 →
       s ≡ sum_of (row_at nodes starts k 0) (row_at nodes starts k e) d
 
--- The row of delay d of node k, of two channels. Where the upper channel's part of the delay grows,
--- one sample more of the upper channel is added to the row before, and else one of the lower
--- channel, to the row before as it stood one spectrum earlier.
+-- The row of delay d of node k, of two channels. If the upper channel's part of the delay grows,
+-- one more sample of the upper channel is added to the row before. Otherwise one of the lower
+-- channel is added to the row before as it was one spectrum earlier.
 pub record IsMadeOfTwo (edges : List ℕ) (nodes : List Node) (starts : List ℕ) (k d : ℕ)
     (s : Source) : Type 0 where
   pub first : d ≡ 0 → s ≡ sum_of (row_at nodes starts (k + 1) 0)
@@ -65,7 +65,8 @@ pub record IsMadeOfTwo (edges : List ℕ) (nodes : List Node) (starts : List ℕ
       s ≡ sum_of (row_at nodes starts k e)
       (row_at nodes starts (lower_number (node_at nodes k) k) 0) 1
 
--- the row of delay d of a node, of which the upper half gets the part `split`: a row of each half
+-- the row of delay d of a node, whose upper half has the part `split` of the delay: a row of each
+-- half
 abbrev pub halves_of : List Node → List ℕ → ℕ → ℕ → ℕ → Source
 halves_of nodes starts k d split = sum_of (row_at nodes starts (k + 1) split)
     (row_at nodes starts (lower_number (node_at nodes k) k) (d - split)) (d - split)
@@ -81,8 +82,7 @@ pub record IsMade (edges : List ℕ) (nodes : List Node) (starts : List ℕ) (k 
 abbrev pub source_at : List Source → ℕ → Source
 source_at sources r = slice_index_or sources r (Channel 0)
 
--- Of each row a multiple of 16 values is kept: the least one that is as many as the first rows ask
--- for of those before a chunk.
+-- Of each row a multiple of 16 values is kept: the smallest that is enough for the first rows.
 pub record AreTails (sources : List Source) (count : ℕ) (tails : List ℕ) : Type 0 where
   pub entries : length tails ≡ length sources
   pub whole : (r : ℕ) → slice_index tails r % 16 ≡ 0

@@ -20,7 +20,7 @@ unfoldable pub row_sum : BandPlan → PlanRows → Filterbank → Sums
 row_sum p rows f r u late =
     node_sum f p.edges (part_of p rows r).lo (part_of p rows r).hi (delay_of rows r) u late
 
--- these are the samples, and the sums of what the rows are made of
+-- the values of rows are samples, or the sums of the two rows that a row is made of
 abbrev pub RowsAddUp : Type 0
 RowsAddUp = (p : BandPlan) (rows : PlanRows) (f : Filterbank) → IsPlan p → ArePlanRows p rows →
     f.channels ≡ channels_of p.edges →
@@ -35,13 +35,14 @@ cells_of p rows r = (part_of p rows r).hi - (part_of p rows r).lo + delay_of row
 abbrev pub AreAtMost : Filterbank → ℕ → ℕ → Type 0
 AreAtMost f e m = (c t : ℕ) → c < f.channels → t < e → f.value c t ≤ m
 
--- then a value that ends before spectrum e is at most m for each of its cells
+-- if no sample before spectrum e is above m, a value that ends before it is at most m for each of
+-- its cells
 abbrev pub RowsAreBounded : Type 0
 RowsAreBounded = (p : BandPlan) (rows : PlanRows) (f : Filterbank) (e m : ℕ) → IsPlan p →
     ArePlanRows p rows → f.channels ≡ channels_of p.edges → AreAtMost f e m →
     (r u late : ℕ) → u < e + late → row_sum p rows f r u late ≤ m * cells_of p rows r
 
--- before the first spectrum there is nothing
+-- values that end before the first spectrum are 0
 abbrev pub RowsBeginEmpty : Type 0
 RowsBeginEmpty = (p : BandPlan) (rows : PlanRows) (f : Filterbank) → IsPlan p →
     ArePlanRows p rows → (r u late : ℕ) → u < late → row_sum p rows f r u late ≡ 0

@@ -1,5 +1,4 @@
-// Laws of the rows of a plan, which the contracts of functions that do nothing carry. A caller whose proof needs a law
-// calls its function.
+// Laws of the rows of a plan, as functions that do nothing. A caller whose proof needs a law calls its function.
 ghost use Rattle.subband_plan.specs.RowLaws.{RowsAreNumbered, RowsComeAfter};
 ghost use Rattle.subband_plan.specs.Values.{RowsAddUp, RowsAreBounded, RowsBeginEmpty, BandRowsArePathSums};
 
@@ -10,14 +9,16 @@ use search_model::{
     splits_fit, splits_step, time_shifts, whole_band_is_path_sum,
 };
 
-/// The rows of a node are numbered from its start up to the next node's, and its halves keep the rows that it asks for.
+/// Law: the rows of node k have the numbers from `starts[k]` up to, but without, `starts[k + 1]`, and the rows that a
+/// node's rows are made of are rows of its halves.
 pub fn rows_are_numbered()
     ensures { RowsAreNumbered }
 {
     asked_rows_are_there();
 }
 
-/// The sums over the rows' nodes are the samples, and the sums of the rows that a row is made of.
+/// Law: the sums over the nodes of the rows are the samples of a channel, or the sum of the two rows that a row is made
+/// of.
 pub fn rows_add_up()
     ensures { RowsAddUp }
 {
@@ -31,7 +32,7 @@ pub fn rows_add_up()
     splits_step();
 }
 
-/// A value of a row is at most the greatest sample times the number of cells that it adds up.
+/// Law: a value of a row is at most the greatest sample times the number of cells that it adds up.
 pub fn rows_are_bounded()
     ensures { RowsAreBounded }
 {
@@ -43,7 +44,7 @@ pub fn rows_are_bounded()
     splits_fit();
 }
 
-/// The values of rows that end before the first spectrum are 0.
+/// Law: values that end before the first spectrum are 0.
 pub fn rows_begin_empty()
     ensures { RowsBeginEmpty }
 {
@@ -51,7 +52,7 @@ pub fn rows_begin_empty()
     nothing_before();
 }
 
-/// The rows of the whole band are its path sums.
+/// Law: the rows of the whole band are its path sums.
 pub fn band_rows_are_path_sums()
     ensures { BandRowsArePathSums }
 {
@@ -61,7 +62,7 @@ pub fn band_rows_are_path_sums()
     late_path_sums();
 }
 
-/// A row is made of rows of nodes of greater numbers, or of rows before it of its own node.
+/// Law: a row is made of rows of nodes with greater numbers, or of earlier rows of its own node.
 pub fn rows_come_after()
     ensures { RowsComeAfter }
 {

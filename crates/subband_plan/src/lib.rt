@@ -1,4 +1,4 @@
-//! The plan of the sub-band tables: the nodes of the halving tree with their rows, and what each row is made of.
+//! Plans the rows of a search: the nodes of the halving tree with their rows, and what each row is made of.
 //!
 //! Source: Zackay & Ofek, ApJ 835:11, 2017.
 #![tactic(auto)]

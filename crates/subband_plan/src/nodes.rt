@@ -10,15 +10,20 @@ use band_paths::split;
 use psr_base::Memory;
 use search_model::{splits_fit, splits_step};
 
-/// A part of the band: the channels from `lo` up to, but without, `hi`, counted from the highest frequency, with a row
-/// for each delay from `first_row` to `last_row`, in spectra. The rows of the node above need at most the last `tail`
-/// values of each row; more can be kept: counts are rounded up, and rows of one and two channels need more.
+/// A part of the band, with a row for each delay. Channels are counted from the highest frequency, delays are in
+/// spectra.
 #[derive(Clone, Copy, PartialEq, Eq, Debug)]
 pub struct Node {
+    /// The first channel.
     pub lo: u32,
+    /// The channel after the last one.
     pub hi: u32,
+    /// The smallest delay.
     pub first_row: u32,
+    /// The greatest delay.
     pub last_row: u32,
+    /// How many of the last values of each row the node above needs at most. `PlanRows` can keep more: it rounds counts
+    /// up, and rows of one and two channels need more.
     pub tail: u32,
 }
 
@@ -34,7 +39,7 @@ impl Node {
         self.lo + (self.hi - self.lo) / 2
     }
 
-    /// The number of the lower half, where this is node `k`. The upper half is node `k + 1`.
+    /// The number of the lower half, if this is node `k`. The upper half is node `k + 1`.
     pub fn lower_number(self, k: usize) -> usize
         requires order { self.lo ≤ self.hi }
         requires number { k < 2 ^ 32 }
@@ -43,7 +48,7 @@ impl Node {
         k + 2 * (self.middle() - self.lo) as usize
     }
 
-    /// The least delay of the rows that tables keep of this node: 0 for one or two channels.
+    /// The smallest delay of the rows that `PlanRows` has of this node: 0 for one or two channels.
     pub fn least_row(self) -> u32
         requires { self.lo ≤ self.hi }
         ensures { result ≡ least_row_of self }
@@ -55,7 +60,7 @@ impl Node {
         }
     }
 
-    // The part of the delay `d` that the upper half gets.
+    // The part of a delay of `d` spectra that lies in the upper half.
     pub(crate) fn split(self, edges: &[u32], d: u32) -> u32
         requires edges { AreEdges (channels_of edges.now) edges.now }
         requires node { IsBranch edges.now self }
@@ -69,7 +74,7 @@ impl Node {
         split(edges, self.lo as usize, middle, self.hi as usize, d)
     }
 
-    // Whether the upper half gets more of the delay `d` than of the delay before.
+    // Whether the upper half's part of the delay `d` is greater than its part of `d - 1`.
     pub(crate) fn grows(self, edges: &[u32], d: u32) -> bool
         requires edges { AreEdges (channels_of edges.now) edges.now }
         requires node { IsBranch edges.now self }
@@ -112,7 +117,7 @@ impl Node {
         (upper, lower)
     }
 
-    // Appends the node, what lies in its upper half, and what lies in its lower half.
+    // Appends the node, then all nodes of its upper half, then all nodes of its lower half.
     pub(crate) fn grow(self, edges: &[u32], nodes: &mut Vec<Node>) -> Result<(), Memory>
         requires edges { AreEdges (channels_of edges.now) edges.now }
         requires node { IsBranch edges.now self }
@@ -128,7 +133,7 @@ impl Node {
     }
 }
 
-/// The rows that a node's row asks of its halves are rows of theirs.
+/// Law: the rows that a node's row is made of are rows of its halves.
 pub fn asked_rows_are_there()
     ensures { AskedRowsAreThere }
 {

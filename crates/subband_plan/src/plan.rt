@@ -12,8 +12,8 @@ use psr_base::Memory;
 use std::alloc::Global;
 use std::marker::Model;
 
-/// The plan of the tables over a band: for each node of the halving tree, the delays of its rows. The nodes stand in
-/// preorder: a node, those of its upper half, those of its lower half.
+/// The plan of a band and a range of delays: the nodes of the halving tree, each with the delays of its rows. The nodes
+/// are in preorder: a node, those of its upper half, those of its lower half.
 #[derive(Drop)]
 pub struct Plan {
     edges: Vec<u32>,
@@ -31,8 +31,8 @@ impl Model for Plan {
 }
 
 impl Plan {
-    /// The plan of the delays from `dmin` to `dmax`, in spectra, over a band, whose edges are in kHz, the highest
-    /// first.
+    /// The plan for the delays from `dmin` to `dmax`, in spectra. `edges` are the edges of the channels in kHz, the
+    /// highest first.
     pub fn open(alloc: Global, edges: &[u32], dmin: u32, dmax: u32) -> Result<Plan, Memory>
         requires edges { AreEdges (channels_of edges.now) edges.now }
         requires order { dmin ≤ dmax }
@@ -66,7 +66,7 @@ impl Plan {
         self.edges.as_slice()
     }
 
-    /// All nodes.
+    /// All nodes, in preorder.
     pub fn all_nodes(&self) -> &[Node]
         ensures value { result.now ≡ nodes_of self.now }
         ensures laid { AreLaid self.now.edges result.now }
@@ -75,7 +75,7 @@ impl Plan {
         self.nodes.as_slice()
     }
 
-    /// How many nodes there are: `2n - 1` over `n` channels.
+    /// The number of nodes: `2n - 1` for `n` channels.
     pub fn nodes(&self) -> usize
         ensures value { result ≡ length (nodes_of self.now) }
         ensures count { result + 1 ≡ 2 * channels_of self.now.edges }
@@ -85,7 +85,7 @@ impl Plan {
         self.nodes.len()
     }
 
-    /// A node. Node 0 is the whole band.
+    /// Node `k`. Node 0 is the whole band.
     pub fn node(&self, k: usize) -> Node
         requires { k < length (nodes_of self.now) }
         ensures { result ≡ node_at (nodes_of self.now) k }
@@ -93,7 +93,7 @@ impl Plan {
         self.nodes[k]
     }
 
-    /// How many rows all nodes have. `PlanRows` can have more: those of one and two channels begin there at delay 0.
+    /// The number of rows of all nodes. `PlanRows` can have more: its rows of one and two channels begin at delay 0.
     pub fn rows(&self) -> u64
         ensures { result ≡ sum_by row_count (nodes_of self.now) }
     {
@@ -104,7 +104,7 @@ impl Plan {
         rows
     }
 
-    /// How many values all rows have in chunks of so many spectra, with `tail` more for each.
+    /// The number of values of all rows: `chunk` for each row, and the `tail` of its node.
     pub fn words(&self, chunk: u32) -> u64
         ensures { result ≡ sum_by (word_count chunk) (nodes_of self.now) }
     {
@@ -117,7 +117,7 @@ impl Plan {
     }
 }
 
-/// The nodes of a plan stand where they are looked for.
+/// Law: the nodes of a plan are in preorder, so the numbers of both halves of a node are known.
 pub fn plans_are_laid()
     ensures { PlansAreLaid }
 {

@@ -1,4 +1,4 @@
-// The rows of the tables that are carried from chunk to chunk.
+// The rows of a plan that are carried from chunk to chunk.
 ghost use Rattle.std.specs.Prelude.{◌≡◌, ℕ, ◌+◌, ◌<◌, List, length, slice_index, IfOk};
 ghost use Rattle.subband_plan.specs.NodeLaws.{AreLaid};
 ghost use Rattle.subband_plan.specs.Rows.{AreStarts, AreTails};
@@ -12,19 +12,20 @@ use psr_base::Memory;
 use row_model::{Rows, Source};
 use std::alloc::Global;
 
-// How many values of 16 bits a vector has, and of 32 bits a cache line. Tails are rounded up to multiples of it: with
-// chunks of such multiples, rows then begin at whole vectors of their slots, and tails are copied in whole vectors.
+// Tails are rounded up to multiples of this: the number of 16-bit values of a vector, and of 32-bit values of a cache
+// line. If chunks are such multiples too, rows begin at whole vectors of their slots, and tails are copied in whole
+// vectors.
 const LANES: u32 = 16;
 
-/// The rows of all tables of a plan. They are numbered node by node, and those of a node by their delays; the rows of
-/// nodes of one and two channels begin at delay 0, since each is made of the one before.
+/// All rows of a plan. They are numbered node by node, and those of a node by rising delay. The rows of nodes of one
+/// and two channels begin at delay 0, because each is made of the one before.
 #[derive(Drop)]
 pub struct PlanRows {
-    /// The number of each node's first row, and how many rows there are.
+    /// For each node, the number of its first row; at the end, the number of all rows.
     pub starts: Vec<usize>,
-    /// The number of each row's node.
+    /// For each row, the number of its node.
     pub nodes: Vec<u32>,
-    /// The delay of each row.
+    /// For each row, its delay in spectra.
     pub delays: Vec<u32>,
     /// What each row is made of, and how much of it is kept.
     pub rows: Rows,
@@ -33,7 +34,7 @@ pub struct PlanRows {
 impl PlanRows {
     ghost use Rattle.subband_plan.specs.Rows.{ArePlanRows};
 
-    /// The rows of the tables of a plan.
+    /// All rows of a plan.
     pub fn of(alloc: Global, plan: &Plan) -> Result<PlanRows, Memory>
         ensures { IfOk result (λ rows. ArePlanRows plan.now rows) }
     {
@@ -126,7 +127,7 @@ fn keep_tails(alloc: Global, sources: &[Source]) -> Result<Vec<u32>, Memory>
     Ok(tails)
 }
 
-// Keeps what row `r` asks for, beside what the rows before it ask for.
+// Raises the tail of the upper row that row `r` is made of to what row `r` needs of it.
 fn keep_tail(sources: &[Source], r: usize, tails: &mut Vec<u32>)
     requires within { (channels : ℕ) × AreWithin channels (length sources.now) sources.now }
     requires row { r < length sources.now }

@@ -111,7 +111,7 @@ fn made(edges: &[u32], nodes: &[Node], starts: &[usize], k: usize, d: u32) -> So
     })
 }
 
-// What all rows are made of; `labels` and `delays` say of which node and of which delay each is.
+// What each row is made of. `labels` has the node of each row, and `delays` its delay.
 pub(crate) fn make_rows(
     alloc: Global,
     edges: &[u32],

@@ -1,4 +1,4 @@
-//! A line of text that is put together in place, without memory from an allocator.
+//! A line of text that is put together in place, without an allocator.
 #![tactic(auto)]
 
 ghost use Rattle.std.specs.Prelude.{◌≡◌, ℕ, ◌+◌, ◌≤◌, List, [], ◌++◌, length, decimal};
@@ -8,10 +8,10 @@ use arrayvec::ArrayString;
 use itoa::Buffer;
 use std::marker::Model;
 
-/// The most bytes of a line.
+/// The largest number of bytes of a line.
 pub const ROOM: usize = 256;
 
-/// The bytes of a line so far, at most `ROOM` of them.
+/// A line that is put together: up to `ROOM` bytes.
 #[derive(Drop)]
 pub struct Line {
     text: ArrayString<ROOM>,
@@ -33,7 +33,7 @@ impl Line {
         }
     }
 
-    /// Appends a text.
+    /// Appends a text, for which there must be room.
     pub fn push_str(&mut self, text: &str)
         requires { length self.old + length text.now ≤ ROOM }
         ensures { self.new ≡ self.old ++ text.now }
@@ -41,7 +41,7 @@ impl Line {
         self.text.push_str(text);
     }
 
-    /// Appends a number in decimal digits, of which there are at most 20.
+    /// Appends a number in decimal digits, which are at most 20.
     pub fn push_number(&mut self, number: u64)
         requires { length self.old + 20 ≤ ROOM }
         ensures text { self.new ≡ self.old ++ decimal number }

@@ -1,4 +1,4 @@
-// The text of a search of one or more transfers.
+// Writing the output of a search of one or more transfers.
 ghost use Rattle.std.specs.Prelude.{◌≡◌, ◌≤◌, ◌<◌, ◌^◌, List, map, length};
 ghost use Rattle.std.specs.List.{sum_by};
 ghost use Rattle.search_model.specs.Search.{SettingsInRange};
@@ -15,10 +15,10 @@ use search_model::{MOST_SHARDS, Search};
 use search_model::{candidates_are_listed, candidates_rise, rising_lists_agree, shards_merge};
 use thiserror::Error;
 
-/// Why the text of a search wasn't written whole.
+/// Why the output of a search wasn't written completely.
 #[derive(Clone, Copy, Debug, PartialEq, Eq, Error)]
 pub enum TextStop {
-    /// There are more candidates than the limit.
+    /// There are more candidates than the limit. Nothing was written.
     #[error("{count} candidates, limit {limit}")]
     TooMany { count: u64, limit: u32 },
     /// The sink failed.
@@ -26,7 +26,7 @@ pub enum TextStop {
     SinkFault,
 }
 
-// How many candidates were added to the book of a place.
+// The number of candidates that were added to a book.
 fn count_in(book: &Option<Book>) -> u64
     ensures { result ≡ count_of book.now }
 {
@@ -36,7 +36,7 @@ fn count_in(book: &Option<Book>) -> u64
     }
 }
 
-// How many were added to the books of all shards.
+// The number of candidates that were added to the books of all shards.
 fn count_shards(books: &[Option<Book>]) -> u64
     requires { sum_by count_of books.now < 2 ^ 64 }
     ensures { result ≡ sum_by count_of books.now }
@@ -48,7 +48,7 @@ fn count_shards(books: &[Option<Book>]) -> u64
     count
 }
 
-// How many were added to the books of all transfers.
+// The number of candidates that were added to the books of all transfers.
 fn count_all(books: &[ArrayVec<Option<Book>, MOST_SHARDS>]) -> u64
     requires { book_total (map (λ shards. shards.items) books.now) < 2 ^ 64 }
     ensures { result ≡ book_total (map (λ shards. shards.items) books.now) }
@@ -60,9 +60,11 @@ fn count_all(books: &[ArrayVec<Option<Book>, MOST_SHARDS>]) -> u64
     count
 }
 
-/// Writes the text of a search of one or more transfers, if their candidates together are at most
-/// `search.max_candidates`; else it writes nothing. The books of a transfer are those of its shards, in order. After a
-/// fault of the sink the sink has taken the front of the text.
+/// Writes the output of a search of one or more transfers. If all transfers together have more than
+/// `search.max_candidates` candidates, it writes nothing and returns `TooMany`.
+///
+/// `books` has the books of each transfer, by shard. After a fault of the sink the sink has taken the front of the
+/// output.
 pub fn write_found<K: Sink>(
     search: &Search,
     observations: &[Option<Observation>],

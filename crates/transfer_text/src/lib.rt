@@ -1,4 +1,4 @@
-//! The text of a search of one or more transfers: that of the candidate list of each.
+//! The output of a search of one or more transfers: the candidate list of each transfer.
 #![tactic(auto)]
 
 mod found;

@@ -1,4 +1,4 @@
-// The texts of all transfers, one after another.
+// Writing the candidate lists of all transfers, one after another.
 ghost use Rattle.std.specs.Prelude.{◌≡◌, ◌++◌, ◌≤◌, ◌<◌, List, Some, IsSome, length, map};
 ghost use Rattle.psr_base.specs.Written.{Wrote};
 ghost use Rattle.candidate_book.specs.Conditions.{CanBeMerged};
@@ -14,7 +14,7 @@ use text_line::Line;
 use psr_base::pieces_join;
 use search_model::MOST_SHARDS;
 
-// The line before the text of transfer k.
+// The line before the candidate list of transfer `k`.
 #[tactic(auto, unfolding(crate::specs::Text::transfer_line))]
 fn transfer_line(k: u64) -> Line
     ensures { result ≡ transfer_line_of k }
@@ -26,7 +26,7 @@ fn transfer_line(k: u64) -> Line
     line
 }
 
-// Writes the text of the list of one transfer.
+// Writes the candidate list of one transfer.
 fn write_list<K: Sink>(
     observation: &Option<Observation>,
     books: &[Option<Book>],
@@ -47,7 +47,7 @@ fn write_list<K: Sink>(
     }
 }
 
-// Writes the line of transfer k and the text of its list.
+// Writes the line of transfer `k` and its candidate list.
 fn write_numbered<K: Sink>(
     k: u64,
     observation: &Option<Observation>,
@@ -67,8 +67,8 @@ fn write_numbered<K: Sink>(
     }
 }
 
-/// Writes the text of the lists of all transfers: of one alone, or of more, each after its line `OBS k`, with k from 0
-/// on. The books of a transfer are those of its shards. After a fault the sink has taken the front of this text.
+/// Writes the candidate lists of all transfers. If there are several, each comes after a line `OBS k`, with `k` counted
+/// from 0. `books` has the books of each transfer, by shard. After a fault the sink has taken the front of this output.
 pub fn write_texts<K: Sink>(
     observations: &[Option<Observation>],
     books: &[ArrayVec<Option<Book>, MOST_SHARDS>],

@@ -20,11 +20,6 @@ one_split s (x ∷ a) (y ∷ a') b b' lacks lacks' e =
     let rest = one_split s a a' b b' (lacks_rest s x a lacks) (lacks_rest s y a' lacks') cc in let h : x ≡ y = cc in
     let t = rest.0 in (cc, rest.1)
 
--- a text with the byte between two parts does not lack it
-pub has_byte : (s : ℕ) (a b : List ℕ) → ¬ Lacks s (a ++ s ∷ b)
-has_byte s [] b lacks = lacks 0 (omega arith) refl
-has_byte s (x ∷ a) b lacks = has_byte s a b (lacks_rest s x (a ++ s ∷ b) lacks)
-
 -- what stands between CHECK and the line feed
 pub parted : (place pulses : List ℕ) →
     check_text place pulses ≡ codes "CHECK " ++ ((place ++ 32 ∷ pulses) ++ codes "\n")

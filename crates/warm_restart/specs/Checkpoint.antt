@@ -17,8 +17,8 @@ check_text place pulses = codes "CHECK " ++ place ++ codes " " ++ pulses ++ code
 abbrev pub Lacks : ℕ → List ℕ → Type 0
 Lacks byte bytes = (k : ℕ) → k < length bytes → slice_index bytes k ≢ byte
 
--- The text is exactly one such line. It says the place, which is the first spectrum that was not searched yet, and how
--- many pulses end before it.
+-- The text is exactly one CHECK line. It has the place, which is the first spectrum that was not
+-- searched yet, and the number of pulses that end before it.
 pub record IsCheckpointText (text : List ℕ) (checkpoint : Checkpoint) : Type 0 where
   pub place : List ℕ
   pub pulses : List ℕ
@@ -26,16 +26,16 @@ pub record IsCheckpointText (text : List ℕ) (checkpoint : Checkpoint) : Type 0
   pub place_is : IsCount place checkpoint.place
   pub pulses_are : IsCount pulses checkpoint.pulses
 
--- a text that says no checkpoint
+-- a text that is no checkpoint text
 abbrev pub IsNoCheckpointText : List ℕ → Type 0
 IsNoCheckpointText text = (checkpoint : Checkpoint) → ¬ IsCheckpointText text checkpoint
 
--- its numbers are ones that a checkpoint text says
+-- the numbers of a checkpoint can stand in a checkpoint text
 pub record CanBeSaid (checkpoint : Checkpoint) : Type 0 where
   pub place : checkpoint.place ≤ greatest_count
   pub pulses : checkpoint.pulses ≤ greatest_count
 
--- a checkpoint, where a part that stops before `until` can go on from it
+-- a checkpoint, if a part that stops before `until` can go on from it
 abbrev pub judged_place : ℕ → Checkpoint → Result Checkpoint CheckpointFault
 judged_place until checkpoint =
     if nat_lt checkpoint.place until then Ok checkpoint else Err (Place checkpoint.place until)
@@ -68,7 +68,7 @@ abbrev pub pulses_word : List ℕ → List ℕ
 pulses_word text =
     before_first is_line_feed (after_first is_space (after_first is_space text))
 
--- what a checkpoint text says, computed
+-- the checkpoint of a text, computed
 unfoldable pub checkpoint_of : List ℕ → Option Checkpoint
 checkpoint_of text =
     let place = place_word text in

@@ -19,18 +19,18 @@ pub record IsCount (text : List ℕ) (n : ℕ) : Type 0 where
   pub value : n ≡ digits_value 10 text
   pub bound : n ≤ greatest_count
 
--- the same as a test
+-- whether a text is a count
 abbrev pub is_count : List ℕ → Bool
 is_count text =
     nat_lt 0 (length text) && nat_le (length text) most_digits && all_ascii_digits text
     && nat_le (digits_value 10 text) greatest_count
 
--- the word that says before which spectrum a part stops: such a number, and not 0
+-- the argument UNTIL, the spectrum before which a part stops: a count that is not 0
 pub record IsUntil (word : List ℕ) (n : ℕ) : Type 0 where
   pub count : IsCount word n
   pub some : 1 ≤ n
 
--- what that word says, where it has this form
+-- the number of the argument UNTIL, if it has this form
 unfoldable pub until_of : List ℕ → Option ℕ
 until_of word =
     if is_count word && nat_le 1 (digits_value 10 word) then Some (digits_value 10 word) else None

@@ -4,8 +4,8 @@ use Rattle.std.specs.Prelude.{ℕ, List, nat_lt, if◌then◌else◌}
 use Rattle.search_model.specs.CandidateText.{end_line}
 use Rattle.search_model.specs.Parts.{check_line}
 
--- CHECK where spectra follow those before `until`, of which there are so many in all, and else END; with how many
--- pulses end before it
+-- CHECK if spectra follow those before `until`, of `spectra` in all, otherwise END; with the number
+-- of pulses that end before it
 abbrev pub last_line : ℕ → ℕ → ℕ → List ℕ
 last_line until spectra pulses =
     if nat_lt until spectra then check_line until pulses else end_line pulses 0 spectra

@@ -6,8 +6,8 @@ use Rattle.warm_restart.specs.Counts.{IsUntil, until_of}
 use Rattle.warm_restart.specs.Checkpoint.{IsCheckpointText, CanBeSaid, checkpoint_of}
 use Rattle.warm_restart.specs.declared.checkpoint.Checkpoint.{Checkpoint}
 
--- A text says one checkpoint at most, and has 38 bytes at most. What it says, and what the word UNTIL says, are what
--- their computed definitions give.
+-- A text stands for at most one checkpoint, and then has at most 38 bytes. What it stands for, and
+-- what the argument UNTIL stands for, are what their computed definitions give.
 pub record TextsSayOne : Type 0 where
   pub computed : (text : List ℕ) (checkpoint : Checkpoint) →
       IsCheckpointText text checkpoint ↔ (checkpoint_of text ≡ Some checkpoint)
@@ -15,7 +15,7 @@ pub record TextsSayOne : Type 0 where
       length text ≤ 38
   pub until : (word : List ℕ) (n : ℕ) → IsUntil word n ↔ (until_of word ≡ Some n)
 
--- the CHECK line of numbers that can be said is the text that says them
+-- the CHECK line of numbers that can stand in a checkpoint text is the text of that checkpoint
 pub record LinesAreReadBack : Type 0 where
   pub line : (checkpoint : Checkpoint) → CanBeSaid checkpoint →
       IsCheckpointText (check_line checkpoint.place checkpoint.pulses) checkpoint

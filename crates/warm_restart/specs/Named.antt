@@ -13,13 +13,13 @@ new_word = codes "new"
 abbrev pub most_read : ℕ
 most_read = 65
 
--- The checkpoint text that a word stands for: `new` for spectrum 0 and no pulses, another word for the bytes under that
--- name, where they are told.
+-- The checkpoint text that an argument stands for: `new` for spectrum 0 and no pulses, any other
+-- for the bytes of the file of that name, if they are known.
 abbrev pub named_text : Told → List ℕ → Option (List ℕ)
 named_text told word =
     if bytes_eq word new_word then Some (check_line 0 0) else told.bytes_under word
 
--- the first bytes of a named file were read, so many, or all of fewer and their end
+-- the first `count` bytes of a named file were read, or all of a shorter file and its end
 abbrev pub ReadsFront : ℕ → List ℕ → List ℕ → Told → Told → Type 0
 ReadsFront few name file old new =
     new ≡ filled_by (min (length file) few) few (opened name old)

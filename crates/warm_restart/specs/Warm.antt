@@ -23,7 +23,8 @@ has_ended w = w.engine.has_ended
 abbrev pub book_in : Warm → BookContents
 book_in w = w.engine.book
 
--- A part that can be searched: it stops after its place, and its numbers are ones that texts of parts say.
+-- A part that can be searched: it stops after its place, and its numbers can stand in the texts of
+-- parts.
 pub record IsPart (checkpoint : Checkpoint) (until : ℕ) : Type 0 where
   pub before : checkpoint.place < until
   pub until_bound : until ≤ greatest_count
@@ -67,7 +68,8 @@ pub record SearchedPart (o : Observation) (s : Search) (checkpoint : Checkpoint)
   pub scope : scope_of e ≡ part_scope o s checkpoint.place until
   pub found : HasFoundIn o (part_scope o s checkpoint.place until) bytes e
 
--- it searches an observation, of which nothing is folded: its engine searches all delays for the part
+-- a part of an observation is searched, with nothing folded: its engine searches all delays for the
+-- part
 pub record SearchesPart (o : Observation) (w : Warm) : Type 0 where
   pub range : SettingsInRange w.search
   pub unfolded : w.search.fold_max < w.search.fold_min
@@ -76,13 +78,14 @@ pub record SearchesPart (o : Observation) (w : Warm) : Type 0 where
   pub shard : w.engine.shard ≡ 0
   pub scope : scope_of w.engine ≡ part_scope o w.search w.checkpoint.place w.until
 
--- and it was fed these data bytes of the observation
+-- a part of an observation is searched, and was fed these data bytes
 pub record WasFed (o : Observation) (bytes : List ℕ) (w : Warm) : Type 0 where
   pub searches : SearchesPart o w
   pub fed : StandsForPart o bytes w.engine
 
--- It has searched the part in these data bytes of an observation: its book has the part of the candidate list of all of
--- them, with their ends as the whole observation counts them, and it counts all whole spectra.
+-- A part was searched in these data bytes of an observation: its book has the part of the candidate
+-- list of all of them, with ends that count from the first spectrum of the observation, and it
+-- counts all complete spectra.
 pub record HasFound (o : Observation) (bytes : List ℕ) (w : Warm) : Type 0 where
   pub searches : SearchesPart o w
   pub book : book_in w ≡ book_of w.search.max_candidates

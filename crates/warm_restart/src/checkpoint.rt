@@ -1,4 +1,4 @@
-// A checkpoint, as its text says it.
+// Checkpoints, and their text.
 ghost use Rattle.std.specs.Prelude.{◌≡◌, ◌≢◌, Err, IfSome, IfNone};
 ghost use Rattle.psr_base.specs.Written.{Wrote};
 ghost use Rattle.search_model.specs.Parts.{check_line as check_line_of};
@@ -13,16 +13,16 @@ use psr_base::{Sink, write_all};
 use crate::laws::{lines_are_read_back, texts_say_one};
 use thiserror::Error;
 
-/// From where a search is taken up again.
+/// The place at which a search goes on.
 #[derive(Clone, Copy, Debug, PartialEq, Eq)]
 pub struct Checkpoint {
-    /// The first spectrum in which pulses that are still to be found end: the part before stopped before it.
+    /// The first spectrum at which pulses still to be found end. The part before stopped before it.
     pub place: u64,
-    /// How many pulses end before it.
+    /// The number of pulses that end before it.
     pub pulses: u64,
 }
 
-/// Why there is no checkpoint from which a part can go on, in the order in which it is judged.
+/// Why a part can't go on from a checkpoint. The causes are judged in this order.
 #[derive(Clone, Copy, Debug, PartialEq, Eq, Drop, Error)]
 pub enum CheckpointFault {
     /// The inputs failed.
@@ -31,13 +31,13 @@ pub enum CheckpointFault {
     /// The text isn't exactly one CHECK line.
     #[error("no checkpoint")]
     Form,
-    /// The part would stop before spectrum `until`, and so before it begins, at spectrum `place`.
+    /// The part would stop before spectrum `until`, which is not after `place`, where it begins.
     #[error("a checkpoint at {place} for a part that stops before {until}")]
     Place { place: u64, until: u64 },
 }
 
 impl Checkpoint {
-    /// Spectrum 0, before which no pulse ends.
+    /// The checkpoint at spectrum 0, before which no pulse ends.
     pub fn first() -> Checkpoint
         ensures { result ≡ record { place = 0; pulses = 0 } }
     {
@@ -47,8 +47,8 @@ impl Checkpoint {
         }
     }
 
-    /// The checkpoint that a text says. `None` exactly where the text is no checkpoint text: `CHECK`, the place and the
-    /// pulses, each after one space, and a line feed, with numbers up to 2^48 in 1 to 15 decimal digits.
+    /// Reads a checkpoint text: `CHECK`, the place and the number of pulses, each after one space, and a line feed.
+    /// Both numbers are at most 2^48, with 1 to 15 decimal digits. `None` if and only if the text is no such text.
     pub fn read(text: &[u8]) -> Option<Checkpoint>
         ensures value { result ≡ checkpoint_of text.now }
         ensures some { IfSome result (IsCheckpointText text.now) }
@@ -67,7 +67,7 @@ impl Checkpoint {
         }
     }
 
-    /// The checkpoint that a text says, for a part that stops before spectrum `until`. It never answers `Failed`.
+    /// Reads a checkpoint text for a part that stops before spectrum `until`. The error is never `Failed`.
     pub fn judge(text: &[u8], until: u64) -> Result<Checkpoint, CheckpointFault>
         ensures judged { IsJudged text.now until result }
         ensures reads_nothing { result ≢ Err CheckpointFault.Failed }
@@ -79,7 +79,7 @@ impl Checkpoint {
         }
     }
 
-    /// Writes the CHECK line of this checkpoint. After a fault the sink has taken the front of it.
+    /// Writes the CHECK line of this checkpoint. After a fault the sink has taken a beginning of the line.
     pub fn write<K: Sink>(&self, sink: &mut K) -> Result<(), SinkStop>
         ensures wrote { Wrote (check_line_of self.now.place self.now.pulses) (K.seen sink.old)
             (K.seen sink.new) result }
@@ -93,7 +93,7 @@ impl Checkpoint {
         }
     }
 
-    // This checkpoint, where its place is before spectrum `until`.
+    // This checkpoint, if its place is before spectrum `until`.
     pub(crate) fn before(self, until: u64) -> Result<Checkpoint, CheckpointFault>
         ensures { result ≡ judged_place until self }
     {

@@ -1,5 +1,5 @@
-//! What a search in parts writes for the next part, and reads of the one before it: checkpoint texts, the words of a
-//! command that say where a part begins and stops, and the text of a part.
+//! Searches in parts: the checkpoint texts by which a part goes on where the one before it stopped, the arguments that
+//! give where a part begins and stops, the search of a part, and its text.
 #![tactic(auto)]
 
 mod checkpoint;

@@ -1,4 +1,4 @@
-// The checkpoint that a word of a command names.
+// Reads the checkpoint that an argument names.
 ghost use Rattle.std.specs.Prelude.{◌≡◌, ◌≢◌, ℕ, ◌≤◌, ◌<◌, length, take, Err, IfOk, OnOk, IsErr, IsOk, IsSome};
 ghost use Rattle.std.specs.Option.{ForSome};
 ghost use Rattle.psr_base.specs.Inputs.{HasReadFrom};
@@ -11,10 +11,11 @@ use psr_base::{Failed, Inputs, fill};
 // Laws: they do nothing when they run, and the proofs use what they ensure.
 use crate::laws::{lines_are_read_back, texts_say_one};
 
-/// How many bytes of a named file are read at most.
+/// The maximum number of bytes that are read of a named file.
 const MOST_READ: usize = 65;
 
-// Opens the file of a name and reads its first bytes, as many as fit, and answers how many they are.
+// Opens the named file and fills `space` with its first bytes. Answers how many these are, which are fewer if the file
+// is shorter.
 fn read_first<I: Inputs>(inputs: &mut I, name: &str, space: &mut [u8]) -> Result<usize, Failed>
     ensures bound { IfOk result (λ n. n ≤ length space.new) }
     ensures first { IfOk result (λ n. OfFile (I.told inputs.old) name.now
@@ -33,8 +34,9 @@ fn read_first<I: Inputs>(inputs: &mut I, name: &str, space: &mut [u8]) -> Result
     }
 }
 
-/// The checkpoint that a word names, for a part that stops before spectrum `until`: `new` names that of a search from
-/// the first spectrum on, and another word a file, of which at most 65 bytes are read. No other file is touched.
+/// Reads the checkpoint that an argument names, for a part that stops before spectrum `until`. `new` is the checkpoint
+/// at the first spectrum; any other argument is the name of a file, of which at most 65 bytes are read. No other file
+/// is touched.
 pub fn read_checkpoint<I: Inputs>(
     inputs: &mut I,
     word: &str,

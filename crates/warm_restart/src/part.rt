@@ -1,4 +1,4 @@
-// The text of a part of a search, and what the part needs of the data.
+// The text of a part of a search, and which spectra the part needs.
 ghost use Rattle.std.specs.Prelude.{◌≡◌, ◌≤◌, List, All};
 ghost use Rattle.psr_base.specs.Written.{Wrote};
 ghost use Rattle.search_model.specs.declared.candidate.Candidate.{Candidate};
@@ -17,8 +17,8 @@ use search_model::Search;
 // A law: it does nothing when it runs, and the proofs use what it ensures.
 use psr_base::pieces_join;
 
-/// The first spectrum that is needed for the pulses that end at spectrum `place` and after it: the longest delay and
-/// the widest box before `place`, or 0 where that is before the first one.
+/// The first spectrum that is needed to find the pulses that end at spectrum `place` or later: the longest delay and
+/// the widest box before `place`, or 0 if that would be before the first spectrum.
 pub fn first_needed(search: &Search, place: u64) -> u64
     ensures value { result ≡ first_needed_of search.now place }
     ensures bound { result ≤ place }
@@ -26,9 +26,9 @@ pub fn first_needed(search: &Search, place: u64) -> u64
     place.saturating_sub(u64::from(search.max_delay) + u64::from(search.widest))
 }
 
-/// Writes the last line of the text of a part that stops before spectrum `until`, of so many spectra in all: CHECK
-/// where more follow, and else END. `pulses` is how many end before `until`, from the first spectrum on. After a fault
-/// the sink has taken the front of the line.
+/// Writes the last line of the text of a part that stops before spectrum `until`: CHECK if more follow of the `spectra`
+/// spectra of the observation, otherwise END. `pulses` is how many end before `until`, counted from the first spectrum
+/// on. After a fault the sink has taken a beginning of the line.
 pub fn write_last_line<K: Sink>(
     until: u64,
     spectra: u64,
@@ -43,12 +43,12 @@ pub fn write_last_line<K: Sink>(
     }
 }
 
-/// Writes the text of the part from a checkpoint on that stops before spectrum `until`, of so many spectra in all: the
-/// lines of the pulses that a book keeps, and the last line, which counts them on from those before the checkpoint.
-/// After a fault the sink has taken the front of this text.
+/// Writes the text of the part from a checkpoint up to, but without, spectrum `until`: the lines of the pulses that a
+/// book keeps, and the last line, which adds their number to that of the checkpoint. The observation has `spectra`
+/// spectra. After a fault the sink has taken a beginning of the text.
 ///
-/// The checkpoint counts at most 2^48 pulses, as each does that was read. Where the sum is more, which it can only be
-/// after a checkpoint that no search wrote, it is written all the same, and is no checkpoint for a further part.
+/// The checkpoint counts at most 2^48 pulses, as every one that was read does. If the sum is greater, it is written all
+/// the same, and no further part can read it. That can happen only after a checkpoint that no search wrote.
 pub fn write_part<K: Sink>(
     book: &Book,
     obs: &Observation,

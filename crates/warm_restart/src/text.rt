@@ -1,8 +1,8 @@
-// The words of a CHECK line.
+// Splits a CHECK line.
 ghost use Rattle.std.specs.Prelude.{◌≡◌, ◌≢◌, ◌++◌, ◌∷◌, List, ℕ, IfSome, IfNone};
 ghost use Rattle.warm_restart.specs.Checkpoint.{Lacks, check_text};
 
-// What stands after `front`.
+// What comes after `front`, or `None` if the text doesn't begin with it.
 fn after<'a>(text: &'a [u8], front: &[u8]) -> Option<&'a [u8]>
     ensures some { IfSome result (λ rest. text.now ≡ front.now ++ rest.now) }
     ensures none { IfNone result ((rest : List ℕ) → text.now ≢ front.now ++ rest) }
@@ -10,7 +10,7 @@ fn after<'a>(text: &'a [u8], front: &[u8]) -> Option<&'a [u8]>
     text.strip_prefix(front)
 }
 
-// What stands before `end`.
+// What comes before `end`, or `None` if the text doesn't end with it.
 fn before<'a>(text: &'a [u8], end: &[u8]) -> Option<&'a [u8]>
     ensures some { IfSome result (λ rest. text.now ≡ rest.now ++ end.now) }
     ensures none { IfNone result ((rest : List ℕ) → text.now ≢ rest ++ end.now) }
@@ -18,7 +18,7 @@ fn before<'a>(text: &'a [u8], end: &[u8]) -> Option<&'a [u8]>
     text.strip_suffix(end)
 }
 
-// What stands before the first `byte`, and what stands after it.
+// What comes before the first `byte`, and what comes after it; `None` if there is no such byte.
 fn split_at_first(text: &[u8], byte: u8) -> Option<(&[u8], &[u8])>
     ensures found { IfSome result (λ parts. text.now ≡ parts.0.now ++ byte ∷ parts.1.now) }
     ensures first { IfSome result (λ parts. Lacks byte parts.0.now) }
@@ -32,7 +32,7 @@ fn split_at_first(text: &[u8], byte: u8) -> Option<(&[u8], &[u8])>
     None
 }
 
-/// The words of the place and of the pulses in a CHECK line that ends in a line feed.
+/// The two arguments, place and number of pulses, of a CHECK line that ends in a line feed.
 pub(crate) fn check_words(text: &[u8]) -> Option<(&[u8], &[u8])>
     ensures line { IfSome result (λ words. text.now ≡ check_text words.0.now words.1.now) }
     ensures first { IfSome result (λ words. Lacks 32 words.0.now) }

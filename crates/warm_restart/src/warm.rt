@@ -22,9 +22,9 @@ use std::alloc::Global;
 use search_engine::scopes_are_found;
 use search_model::{candidates_are_listed, one_shard_is_all};
 
-/// The search of a part of an observation, from a checkpoint on: data bytes are fed in pieces that are cut anywhere,
-/// from the first spectrum of the observation on, and the pulses that end in the part are kept in a book. All memory
-/// is taken by `open`.
+/// The search of a part of an observation, from a checkpoint on. Data bytes are fed in pieces of any length, from the
+/// first spectrum of the observation on, and the pulses that end in the part are kept in a book. `open` takes all
+/// memory.
 #[derive(Drop)]
 pub struct Warm {
     search: Search,
@@ -34,9 +34,9 @@ pub struct Warm {
 }
 
 impl Warm {
-    /// Takes the memory for the search of the part from a checkpoint on that stops before spectrum `until`, or says why
-    /// the search is refused, as one of the whole observation is. Nothing is folded. One engine searches all delays,
-    /// however many shards the settings ask for.
+    /// Takes the memory for the search of the part from a checkpoint up to, but without, spectrum `until`. The error
+    /// says why the search is refused, exactly as one of the whole observation is. Nothing is folded. One engine
+    /// searches all delays, whatever number of shards the settings have.
     pub fn open(
         alloc: Global,
         observation: &Observation,
@@ -64,8 +64,8 @@ impl Warm {
         }
     }
 
-    /// The search of the part from a checkpoint on that stops before spectrum `until`, by an engine that has searched
-    /// it: one of all delays, opened for the scope that `part_scope` answers.
+    /// The search of the part from a checkpoint up to, but without, spectrum `until`, by an engine that has searched
+    /// it. The engine has all delays, and was opened for the scope of `part_scope`.
     pub fn of_engine(search: &Search, checkpoint: Checkpoint, until: u64, engine: Engine) -> Warm
         ensures is { IsWarmOf search.now checkpoint until engine result }
         ensures found { (o : Described) (bytes : List ℕ)
@@ -81,7 +81,7 @@ impl Warm {
         }
     }
 
-    /// Takes the next data bytes.
+    /// Takes the next data bytes, and searches each chunk that they fill.
     pub fn feed(&mut self, bytes: &[u8])
         requires running { has_ended_of self.old ≡ false }
         requires few { fed_of self.old + length bytes.now ≤ most_fed }
@@ -94,7 +94,7 @@ impl Warm {
         self.engine.feed(bytes);
     }
 
-    /// Ends the data: what is left of the part is searched, but for an incomplete last spectrum.
+    /// Ends the data. All that is left of the part is searched, except an incomplete last spectrum.
     pub fn end(&mut self)
         requires { has_ended_of self.old ≡ false }
         ensures same { SamePart self.new self.old }
@@ -108,21 +108,21 @@ impl Warm {
         self.engine.end();
     }
 
-    /// How many bytes were fed.
+    /// The number of bytes that were fed.
     pub fn fed(&self) -> u64
         ensures { result ≡ fed_of self.now }
     {
         self.engine.fed()
     }
 
-    /// Whether the data were ended.
+    /// Whether `end` was called.
     pub fn has_ended(&self) -> bool
         ensures { result ≡ has_ended_of self.now }
     {
         self.engine.has_ended()
     }
 
-    /// How many whole spectra the bytes are that were fed, those that are not searched among them.
+    /// The number of complete spectra that were fed, including those that are not searched.
     pub fn spectra(&self) -> u64
         ensures value { result ≡ spectra_fed self.now.engine }
         ensures fed { (o : Described) (bytes : List ℕ) → WasFed o bytes self.now
@@ -133,16 +133,16 @@ impl Warm {
         self.engine.whole_spectra()
     }
 
-    /// The pulses: after `end`, those of the part, with their ends counted from the first spectrum of the observation.
+    /// The pulses so far: after `end`, those of the part. Their ends count from the first spectrum of the observation.
     pub fn book(&self) -> &Book
         ensures { result.now ≡ book_in self.now }
     {
         self.engine.book()
     }
 
-    /// Writes the text of the part of this observation, once it is found and where the book keeps all of it: the lines
-    /// of its pulses, and the last line, which counts them on from those before the checkpoint. After a fault the sink
-    /// has taken the front of this text.
+    /// Writes the text of the part: the lines of its pulses, and the last line, which adds their number to that of the
+    /// checkpoint. The part must have ended, and its book must keep all its pulses. After a fault the sink has taken a
+    /// beginning of the text.
     pub fn write<K: Sink>(&self, observation: &Observation, sink: &mut K) -> Result<(), SinkStop>
         requires { KeepsPart observation.now self.now }
         ensures { let w = self.now in (bytes : List ℕ) → HasFound observation.now bytes w
@@ -161,8 +161,8 @@ impl Warm {
     }
 }
 
-/// What of an observation is searched for the part from spectrum `place` on that stops before spectrum `until`: the
-/// ends of the part, in the spectra that it needs.
+/// The scope of the part from spectrum `place` up to, but without, spectrum `until`: the ends of the part, in the
+/// spectra that it needs.
 pub fn part_scope(observation: &Observation, search: &Search, place: u64, until: u64) -> Scope
     requires place { place ≤ 2 ^ 48 }
     requires until { until ≤ 2 ^ 48 }

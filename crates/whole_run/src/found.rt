@@ -25,7 +25,7 @@ pub struct Found {
     pub blocks: Finished,
 }
 
-/// What a program came to.
+/// How a program ended.
 #[derive(Drop)]
 pub struct ProgramEnd {
     /// Why it stopped early, or `None` if it went to its end.

@@ -1,5 +1,4 @@
-//! A run of psr_search or psr_record, from its settings to the end of its session: `drive` opens the run, and drives
-//! its session to its end.
+//! A run of psr_search or psr_record. `drive` opens it by its settings, and drives its session to the end.
 #![tactic(auto)]
 
 mod found;

@@ -25,8 +25,8 @@ use std::time::Clock;
 // A law: it does nothing when it runs, and the proofs use what it ensures.
 use search_opening::early_stops_are_said;
 
-// Drives a run as `drive` does, with one lifetime for all borrows, so that their final values are known. `offsets` will
-// hold where the data of each transfer begin.
+// Drives a run as `drive` does, with one lifetime for all borrows, so that their final values are known. `offsets` gets
+// the OBS_OFFSET of the first data byte of each transfer.
 fn within<'a, I: Inputs + Send, F: Files + Send, G: Gate + Sync, R: Threads + Wait + Clock + Sync>(
     rt: &R,
     alloc: Global,
@@ -93,9 +93,11 @@ fn within<'a, I: Inputs + Send, F: Files + Send, G: Gate + Sync, R: Threads + Wa
     }
 }
 
-/// Drives a run of psr_search or psr_record, from its settings to the end of its session. At `Ok` the session went to
-/// its end; its `feed` says whether all data were read. At `Err` the run stopped before its session (a first header, a
-/// search or a recording is refused, the inputs failed, or there was no memory), and no file was made. It may not end.
+/// Drives a run of psr_search or psr_record, from its settings to the end of its session. It may not end.
+///
+/// At `Ok` the session came to its end; `feed` of the result tells whether all data were read. At `Err` the run stopped
+/// before its session, and no file was made: the first header of a transfer, the search or the recording is refused,
+/// the inputs failed, or there was no memory.
 pub fn drive<I: Inputs + Send, F: Files + Send, G: Gate + Sync, R: Threads + Wait + Clock + Sync>(
     rt: &R,
     alloc: Global,

@@ -64,7 +64,7 @@ fn found_of<'a, I, F>(
     }
 }
 
-// What a session without a recorder left, to which no files were lent.
+// What a session without a recorder left. `files` were not lent to it.
 fn found_without<'a, I, F>(
     observations: ArrayVec<Option<Observation>, MOST_TRANSFERS>,
     end: SessionEnd<'a, I, F>,
@@ -140,7 +140,7 @@ fn with_recorder<
     found_of(observations, end)
 }
 
-// Drives a session without a recorder, to which no files are lent.
+// Drives a session without a recorder. `files` are not lent to it.
 fn without_recorder<
     'a,
     I: Inputs + Send,

@@ -59,7 +59,8 @@ fn read_and_clear(ring: &Ring, reader: &mut ReaderPass) -> u64
     0
 }
 
-// What five writes answer: two, one after the first reader cleared a block, and two after the second retired.
+// What five writes return: two of them, one after the first reader cleared a block, and two after the second reader
+// retired.
 fn answers(duo: Duo) -> [Result<u64, WriteStop>; 5] {
     let Duo {
         ring,

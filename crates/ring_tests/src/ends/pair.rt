@@ -1,4 +1,4 @@
-// One thread writes and reads by turns: a table of steps, each with what it answers.
+// One thread writes and reads by turns. The tests are tables of steps with what each returns.
 ghost use Rattle.std.specs.Prelude.{◌≡◌};
 ghost use Rattle.ring_words.specs.Shape.{IsRing};
 ghost use Rattle.ring_ends.specs.Passes.{ring_shape, WritesTo, ReadsFrom};
@@ -21,20 +21,20 @@ pub(super) struct Pair {
 
 #[derive(Clone, Copy)]
 enum Step {
-    /// A full block of this byte.
+    /// Writes a full block of this byte.
     Write(u8),
-    /// A last block of two bytes.
+    /// Writes a last block of two bytes.
     End,
     Read,
     Clear,
-    /// Detach, and attach again.
+    /// Detaches and attaches again.
     Again,
 }
 
 #[derive(Clone, Copy, PartialEq, Eq, Debug)]
 enum Seen {
     Wrote(Result<u64, WriteStop>),
-    /// With the first byte that was copied.
+    /// What a read returned, and the first byte that it copied.
     Read(Result<Taken, ReadStop>, u8),
     Cleared(u64),
     Nothing,
@@ -110,7 +110,7 @@ fn took(block: u64, used: u32, mark: Mark, first: u8) -> Seen {
     Seen::Read(Ok(Taken { block, used, mark }), first)
 }
 
-// The number of the first step that answered otherwise, or the number of steps.
+// Plays the steps. Returns the number of the first step that returned something else, or the number of steps.
 fn play_all(mut pair: Pair, steps: &[(Step, Seen)]) -> (Pair, usize) {
     for (i, (step, wanted)) in steps.iter().enumerate() {
         let (next, seen) = play(pair, *step);

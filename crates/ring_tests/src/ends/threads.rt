@@ -1,4 +1,4 @@
-// One writer and its readers in threads of their own. Each gives up after so many tries, so that every test ends.
+// One writer and its readers, each in a thread of its own. A thread gives up after `TRIES` tries, so every test ends.
 ghost use Rattle.std.specs.Prelude.{◌≡◌};
 ghost use Rattle.std.specs.Thread.{IsSync};
 ghost use Rattle.ring_words.specs.Shape.{IsRing};
@@ -21,7 +21,7 @@ const TRIES: u32 = 50_000_000;
 
 const BLOCKS: u64 = 1000;
 
-// Each block has its number in it.
+// Writes blocks, each with its number in it.
 fn write_blocks(ring: &Ring, mut writer: WriterPass) -> WriterPass
     requires size { (ring_shape ring.now).size ≡ 8 }
     requires ring { WritesTo ring.now writer }
@@ -42,7 +42,7 @@ fn write_blocks(ring: &Ring, mut writer: WriterPass) -> WriterPass
     writer
 }
 
-// Whether the next block is the right one, if there is one.
+// Whether the next block is the right one, or `None` if there is none yet.
 fn read_one(ring: &Ring, reader: &mut ReaderPass) -> Option<bool>
     requires size { (ring_shape ring.now).size ≡ 8 }
     requires ring { ReadsFrom ring.now reader.old }
@@ -58,7 +58,7 @@ fn read_one(ring: &Ring, reader: &mut ReaderPass) -> Option<bool>
     Some(taken.block == wanted && taken.used == 8 && into == wanted.to_le_bytes())
 }
 
-// Reads so many blocks, and says whether each was the right one.
+// Reads `count` blocks, and tells whether each was the right one.
 fn read_blocks(ring: &Ring, mut reader: ReaderPass, count: u64) -> (ReaderPass, bool)
     requires size { (ring_shape ring.now).size ≡ 8 }
     requires ring { ReadsFrom ring.now reader }
@@ -78,7 +78,7 @@ fn read_blocks(ring: &Ring, mut reader: ReaderPass, count: u64) -> (ReaderPass, 
     (reader, right)
 }
 
-// The same, and it detaches and attaches before each read.
+// Reads all blocks, and detaches and attaches before each read. Tells whether each block was the right one.
 fn read_again(ring: &Ring, mut reader: ReaderPass) -> (ReaderPass, bool)
     requires size { (ring_shape ring.now).size ≡ 8 }
     requires ring { ReadsFrom ring.now reader }
@@ -223,7 +223,7 @@ fn finish(
     ring.finish(writer, readers)
 }
 
-// What came of it, and whether each block that was read was the right one.
+// Runs the crew until all its threads end. Tells whether each block that was read was the right one.
 fn run<R: Threads + Sync>(rt: &R, crew: Crew) -> (Finished, bool)
     ensures { (finished_shape result.0).readers ≡ 3 }
 {

@@ -1,4 +1,4 @@
-// How a schedule is laid for orders that were taken.
+// Lays the slots and the steps of a schedule for the orders that were taken.
 ghost use Rattle.std.specs.Prelude.{◌≡◌, ℕ, ◌+◌, ◌*◌, ◌^◌, ◌<◌, ◌≤◌, ◌↔◌, true, false, IsTrue, IsSome, IfOk, IfSome, Ok, Some, None, length, slice_get, slice_index};
 ghost use Rattle.row_model.specs.declared.Source.TheVariants.{Sum};
 ghost use Rattle.row_model.specs.Sums.{is_narrow};
@@ -20,7 +20,7 @@ use psr_base::Memory;
 use row_model::{Merge, Rows, Source};
 use std::alloc::Global;
 
-// How samples are copied.
+// The kind of step that copies samples.
 fn copy_kind(narrow: bool) -> Kind
     ensures copies { copies result ≡ true }
     ensures width { makes_narrow result ≡ narrow }
@@ -31,7 +31,7 @@ fn copy_kind(narrow: bool) -> Kind
     Kind::CopyWide
 }
 
-// How two rows are added; a row of 16 bits is the sum of two such.
+// The kind of step that adds two rows. A row of 16 bits is always the sum of two rows of 16 bits.
 fn sum_kind(narrow: bool, upper: bool, lower: bool) -> Kind
     requires upper { narrow ≡ true → upper ≡ true }
     requires lower { narrow ≡ true → lower ≡ true }
@@ -50,7 +50,7 @@ fn sum_kind(narrow: bool, upper: bool, lower: bool) -> Kind
 }
 
 impl Builder {
-    // Whether all rows were made of which something is kept.
+    // Whether every row of which something is kept was made.
     fn makes_all(&self, rows: &Rows) -> bool
         requires { length rows.now.tails.items ≡ row_count rows.now }
         ensures { IsTrue result ↔ MakeAll rows.now self.now.orders }
@@ -71,7 +71,7 @@ impl Builder {
         self.orders[j]
     }
 
-    // Where the values of the next spectra begin of a row that was made.
+    // The place in the list at which the values of the next spectra begin, for a row that was made.
     fn begins_at(&self, rows: &Rows, places: &[usize], row: usize) -> usize
         requires rows { (c : ℕ) × AreRows c rows.now }
         requires row { row < row_count rows.now }
@@ -85,7 +85,7 @@ impl Builder {
         places[slot as usize] + tail(rows, row) as usize
     }
 
-    // The step that carries out order `j`, which makes a row of two others.
+    // The step that carries out order `j`, whose row is the sum of two others.
     fn sum_step(
         &self,
         rows: &Rows,
@@ -175,7 +175,7 @@ impl Builder {
         Ok(steps)
     }
 
-    // Lays the slots.
+    // Places the slots, for at most `most` spectra at a time.
     fn lay(&self, alloc: Global, rows: &Rows, most: usize) -> Result<Layout, Memory>
         requires rows { (c : ℕ) × AreRows c rows.now }
         requires order { IsInOrder rows.now self.now }
@@ -188,8 +188,9 @@ impl Builder {
         Ok(layout)
     }
 
-    /// Lays the slots and the steps, for up to `most` spectra at a time of so many channels, the samples of which are
-    /// `chunk` places apart. There is none where a row is not made of which something is kept.
+    /// Lays the slots and the steps, for at most `most` spectra at a time. The samples of one of the `channels`
+    /// channels begin `chunk` places after those of the one before. Answers `None` if a row of which something is kept
+    /// is not made.
     pub fn finish(
         self,
         alloc: Global,

@@ -34,7 +34,8 @@ returns-in-Err-clause-stopped g c =
     (c.requires.begun.plan.headers ∙ c.requires.run.one) in
     says_before g.I.Inputs.told g.I.Inputs.is_open (run_seen c.args.run.now) c.args.feeder.now
     c.args.observations.now c.requires.begun only.0 c.header.result.now only.1 c.header.ensures
-    (g.T.Streaming.refuses c.args.task.now) c.in-Err.stop (c.in-Err.ensures.stopped only.0 only.1)
+    (g.T.Streaming.refuses c.args.task.now) c.in-Err.stop c.requires.run.one (c.open_first.ensures.range only.0 only.1)
+    (c.in-Err.ensures.stopped only.0 only.1)
 
 pub returns-in-Err-clause-memory : goal.returns-in-Err-clause-memory
 returns-in-Err-clause-memory g c what is =

@@ -1,7 +1,7 @@
-use Rattle.std.proofs.Common.{Some, Err, sym, ap, subst}
+use Rattle.std.proofs.Common.{Some, sym, subst}
 use Rattle.search_words.specs.Settings.{run_seen}
-use Rattle.drive_stream.specs.Outcome.{LeavesInputs}
-use Rattle.drive_stream.proofs.Through.{left_unread, left_early, left_broken, no_memory_ends, stopped_ends, names_through, serves_through}
+use Rattle.drive_stream.specs.Outcome.{LeavesInputs, ReadsRefused}
+use Rattle.drive_stream.proofs.Through.{left_unread, left_early, left_broken, refused_unread, refused_early, no_memory_ends, stopped_ends, names_through, serves_through}
 use Rattle.drive_stream.proofs.run.within.Goals as goal
 
 pub returns-in-Err-clause-ends : goal.returns-in-Err-clause-ends
@@ -44,7 +44,7 @@ returns-in-Err-open-clause-leaves g c =
     subst P (sym c.close-in-Err-open.ensures.inputs)
     (left_early i.told i.is_calm (run_seen c.args.run.now) c.args.inputs.now c.over-feeder.result.inputs.now
     c.open.new.feeder.inputs.now c.in-Err-open.stop c.over-feeder.ensures.inputs
-    (λ stop is. c.in-Err-open.ensures.leaves stop (ap Err is)))
+    c.in-Err-open.ensures.leaves)
 
 pub returns-in-Ok-open-clause-leaves : goal.returns-in-Ok-open-clause-leaves
 returns-in-Ok-open-clause-leaves g c =
@@ -57,4 +57,32 @@ returns-in-Ok-open-clause-leaves g c =
     c.over-feeder.ensures.inputs c.open.ensures.inputs c.stream_all-done.ensures.memory
     c.open.new.feeder
     (λ failed same read. c.stream_all-done.ensures.broken failed (i.told c.args.inputs.now) same read)
-    c.in-Ok-open.ensures.begins)
+    c.in-Ok-open.ensures.opened.reads)
+
+pub returns-in-Err-clause-refused : goal.returns-in-Err-clause-refused
+returns-in-Err-clause-refused g c =
+    refused_unread (g.T.Streaming.leaves c.args.task.now) (run_seen c.args.run.now)
+    (g.I.Inputs.told c.args.inputs.now) (g.K.Sink.seen c.args.out.now)
+
+pub returns-in-Err-open-clause-refused : goal.returns-in-Err-open-clause-refused
+returns-in-Err-open-clause-refused g c =
+    let i = g.I.Inputs in
+    let seen = g.K.Sink.seen c.args.out.now in
+    let P : _ → Type 0 = λ n. ReadsRefused (g.T.Streaming.leaves c.args.task.now) (run_seen c.args.run.now)
+    (i.told c.args.inputs.now) (i.told n) seen seen (Some c.in-Err-open.stop) in
+    subst P (sym c.close-in-Err-open.ensures.inputs)
+    (refused_early i.told i.is_calm (g.T.Streaming.leaves c.args.task.now) (run_seen c.args.run.now)
+    c.args.inputs.now c.over-feeder.result.inputs.now c.open.new.feeder.inputs.now seen c.in-Err-open.stop
+    c.over-feeder.ensures.inputs c.in-Err-open.ensures.leaves)
+
+pub returns-in-Ok-open-clause-refused : goal.returns-in-Ok-open-clause-refused
+returns-in-Ok-open-clause-refused g c =
+    let i = g.I.Inputs in
+    let seen = g.K.Sink.seen in
+    let P : _ → Type 0 = λ n. ReadsRefused (g.T.Streaming.leaves c.args.task.now) (run_seen c.args.run.now)
+    (i.told c.args.inputs.now) (i.told n) (seen c.args.out.now) (seen c.stream_all-done.new.out)
+    c.stream_all-done.result in
+    subst P (sym c.close.ensures.inputs)
+    (c.stream_all-done.ensures.refused (i.told c.args.inputs.now)
+    (names_through i.told i.is_calm i.faults c.args.inputs.now c.over-feeder.result.inputs.now
+    c.open.new.feeder.inputs.now _ c.over-feeder.ensures.inputs c.open.ensures.inputs))

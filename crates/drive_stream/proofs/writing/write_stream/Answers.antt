@@ -20,9 +20,9 @@ close-requires g c =
     let few = flows.few in
     record {
       header = head.0;
-      bytes = [] ++ joined_bytes flows.blocks;
+      bytes = [] ++ joined_bytes flows.taken.blocks;
       start = seen c.args.out.now;
-      stands = flows.on head.0 [] (seen c.args.out.now) (c.in-Ok.ensures.began head.0 head.1);
+      stands = flows.taken.on head.0 [] (seen c.args.out.now) (c.in-Ok.ensures.began head.0 head.1);
       few = omega (arith, few);
     }
 

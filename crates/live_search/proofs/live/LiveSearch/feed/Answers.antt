@@ -1,4 +1,4 @@
-use Rattle.std.proofs.Common.{◌≡◌, ℕ, ◌+◌, ◌-◌, ◌++◌, List, [], length, take, drop, sym, ◌∙◌, ap, subst, append-nil, length-drop, arith}
+use Rattle.std.proofs.Common.{◌≡◌, ℕ, ◌-◌, ◌++◌, List, [], length, take, drop, sym, ◌∙◌, ap, subst, append-nil, length-drop, arith}
 use Rattle.std.proofs.lemmas.List.{take_all}
 use Rattle.psr_base.specs.Written.{WroteAll}
 use Rattle.live_search.specs.Live.{WasFed, WroteOn, so_far}

@@ -20,5 +20,5 @@ pub returns-in-Err-drain-clause-broke : goal.returns-in-Err-drain-clause-broke
 returns-in-Err-drain-clause-broke g c = λ header was.
     let seen = g.K.Sink.seen in
     begin_breaks c.pieces_join.ensures.pieces (level_seen c.args.self.now.settings.now) c.args._observation.now header
-    c.levels_are_first.ensures c.args.stream.now _ (seen c.args.out.now) (seen c.write_all.new.sink)
+    c.levels_are_fronts.ensures c.args.stream.now _ (seen c.args.out.now) (seen c.write_all.new.sink)
     (seen c.drain.new.out) _ was c.bytes.ensures.bytes c.in-Ok.ensures.all c.in-Err-drain.ensures.broke

@@ -13,6 +13,6 @@ pub returns-in-Err-clause-broke : goal.returns-in-Err-clause-broke
 returns-in-Err-clause-broke g c = λ header bytes start was.
     let seen = g.K.Sink.seen in
     feed_broke c.pieces_join.ensures.pieces (level_seen c.args.self.now.settings.now) c.args._observation.now header
-    c.levels_are_first.ensures c.args.stream.now c.feed-count.new.self c.drain.new.leveller bytes c.args.bytes.now
+    c.levels_are_fronts.ensures c.args.stream.now c.feed-count.new.self c.drain.new.leveller bytes c.args.bytes.now
     c.feed-count.result start (seen c.args.out.now) (seen c.drain.new.out) was c.feed-count.ensures.takes
     c.in-Err.ensures.broke
