@@ -1,8 +1,10 @@
 -- The beginning and the end of the data.
-use Rattle.std.proofs.Common.{◌≡◌, ℕ, refl, ◌+◌, ◌*◌, ◌/◌, ◌%◌, ◌<◌, ◌≤◌, inl, inr, true, false, List, [], length, drop, slice_index, ◌∙◌, sym, ap, arith}
+use Rattle.std.proofs.Common.{◌≡◌, ℕ, refl, ◌+◌, ◌*◌, ◌/◌, ◌%◌, ◌<◌, ◌≤◌, inl, inr, true, false, List, [], length, drop, slice_index, ◌∙◌, sym, ap, subst, arith}
 use Rattle.std.proofs.lemmas.Nat.{div-mul-add, div-add-mod', mod_below, div_below}
 use Rattle.band_level.specs.Ranges.{FormatInRange}
 use Rattle.band_level.specs.Values.{Band, spectrum_bytes}
+use Rattle.band_level.specs.Holding.{Holding, Holds, cleared, held_bytes}
+use Rattle.band_level.proofs.Puts.{holds_nothing}
 use Rattle.band_level.specs.Scales.{unit}
 use Rattle.band_level.specs.Levelled.{Task, fine_before, first_levels}
 use Rattle.band_level.specs.Levelling.{Levelling, IsAt, Waits, Levels, band_of, pending}
@@ -20,20 +22,22 @@ no_levels : (k : Task) (b : Band) → [] ≡ first_levels k b 0
 unfolding first_levels
 no_levels k b = refl
 
-pub starts : (l : Levelling) → FormatInRange l.task.format → 0 < l.task.plan.spectra → l.held ≡ [] → l.first ≡ 0
+pub starts : (l : Levelling) → FormatInRange l.task.format → 0 < l.task.plan.spectra → l.held ≡ cleared l.held
+    → l.first ≡ 0
     → l.last ≡ 0 → l.is_scaled ≡ false → l.has_ended ≡ false
     → ((i : ℕ) → slice_index l.fractions i ≡ 0) → Levels l [] []
 starts l range some held first last not_scaled goes_on none =
     let sb = spectrum_bytes l.task.format in
     let at : 0 + l.first ≡ 0 = omega arith in
-    let long = ap length held in
+    let nothing = subst (λ (h : Holding). Holds l.task.format h []) (sym held) (holds_nothing l.task.format l.held) in
+    let long = nothing.size in
     let size : 0 * sb ≡ 0 = omega arith in (
       0,
       0,
       record {
         place = record {
           size = omega arith;
-          held = held ∙ ap (λ n. drop n []) (sym size);
+          held = subst (λ (n : ℕ). Holds l.task.format l.held (drop n [])) (sym size) nothing;
           carried = λ i lt. none i ∙ ap (λ n. n % unit)
               (sym (ap (fine_before l.task (band_of l []) i) at ∙ none_before l.task (band_of l []) i));
         };
@@ -55,25 +59,25 @@ starts l range some held first last not_scaled goes_on none =
 
 -- how many spectra there are
 spectra_are : (l : Levelling) (bytes : List ℕ) (start : ℕ) → FormatInRange l.task.format → IsAt l bytes start
-    → start + length l.held / spectrum_bytes l.task.format ≡ (band_of l bytes).spectra
+    → start + held_bytes l.task.format l.held / spectrum_bytes l.task.format ≡ (band_of l bytes).spectra
 spectra_are l bytes start range place =
     let sb = spectrum_bytes l.task.format in
     let size = place.size in
-    let split : length l.held / sb * sb + length l.held % sb ≡ length l.held = div-add-mod' (length l.held) sb in
-    let rest : length l.held % sb < sb = mod_below (length l.held) sb (some_bytes l.task.format range) in
-    let all : length bytes ≡ (start + length l.held / sb) * sb + length l.held % sb = omega arith in
-    sym (ap (λ n. n / sb) all ∙ div-mul-add (start + length l.held / sb) sb (length l.held % sb) rest)
+    let split : held_bytes l.task.format l.held / sb * sb + held_bytes l.task.format l.held % sb ≡ held_bytes l.task.format l.held = div-add-mod' (held_bytes l.task.format l.held) sb in
+    let rest : held_bytes l.task.format l.held % sb < sb = mod_below (held_bytes l.task.format l.held) sb (some_bytes l.task.format range) in
+    let all : length bytes ≡ (start + held_bytes l.task.format l.held / sb) * sb + held_bytes l.task.format l.held % sb = omega arith in
+    sym (ap (λ n. n / sb) all ∙ div-mul-add (start + held_bytes l.task.format l.held / sb) sb (held_bytes l.task.format l.held % sb) rest)
 
 -- those of a short stretch are few
 few : (l : Levelling) (start stretch : ℕ) → FormatInRange l.task.format → Waits l start stretch
-    → length l.held / spectrum_bytes l.task.format < l.task.plan.spectra
-few l start stretch range waits = div_below (length l.held) (spectrum_bytes l.task.format) l.task.plan.spectra
+    → held_bytes l.task.format l.held / spectrum_bytes l.task.format < l.task.plan.spectra
+few l start stretch range waits = div_below (held_bytes l.task.format l.held) (spectrum_bytes l.task.format) l.task.plan.spectra
     (some_bytes l.task.format range) waits.short
 
 -- with the scales that are there
 pub ends_scaled : (l : Levelling) (count : ℕ) (bytes out : List ℕ) → FormatInRange l.task.format
     → 0 < l.task.plan.spectra → l.has_ended ≡ false → pending l ≡ 0
-    → count ≡ length l.held / spectrum_bytes l.task.format → (0 < count → l.is_scaled ≡ true)
+    → count ≡ held_bytes l.task.format l.held / spectrum_bytes l.task.format → (0 < count → l.is_scaled ≡ true)
     → Levels l bytes out → Levels (record l { first = 0; last = count; has_ended = true }) bytes out
 ends_scaled l count bytes out range some goes_on none is_count scaled (start, stretch, stands, is_out) =
     let n = l.task.plan.spectra in
@@ -109,7 +113,7 @@ ends_scaled l count bytes out range some goes_on none is_count scaled (start, st
 -- with the scales of what is held, where there are none
 pub ends_short : (l : Levelling) (count : ℕ) (bytes out gains bases lifts : List ℕ) → FormatInRange l.task.format
     → 0 < l.task.plan.spectra → l.has_ended ≡ false → pending l ≡ 0
-    → count ≡ length l.held / spectrum_bytes l.task.format → count * spectrum_bytes l.task.format ≤ length l.held
+    → count ≡ held_bytes l.task.format l.held / spectrum_bytes l.task.format → count * spectrum_bytes l.task.format ≤ held_bytes l.task.format l.held
     → l.is_scaled ≡ false → HeldScales l l.held count gains bases lifts
     → Levels l bytes out
     → Levels (record l {

@@ -1,5 +1,5 @@
 -- Spectra that are levelled, and the end of the data.
-use Rattle.std.proofs.Common.{◌≡◌, ℕ, zero, suc, refl, ◌+◌, ◌-◌, ◌*◌, ◌/◌, ◌%◌, ◌<◌, ◌≤◌, inl, inr, true, false, List, [], ◌++◌, length, drop, slice_index, ◌∙◌, sym, ap, append_assoc, append-nil, arith}
+use Rattle.std.proofs.Common.{◌≡◌, ℕ, zero, suc, refl, ◌+◌, ◌-◌, ◌*◌, ◌/◌, ◌%◌, ◌<◌, ◌≤◌, inl, inr, true, false, List, [], ◌++◌, length, drop, slice_index, ◌∙◌, sym, ap, subst, append_assoc, append-nil, arith}
 use Rattle.std.specs.List.{range_with_len, flat_map}
 use Rattle.std.proofs.Math.Nat.{mul-le-mul, mul-le-mul_right, div-mul-le_self}
 use Rattle.std.proofs.lemmas.List.{drop_all}
@@ -7,11 +7,13 @@ use Rattle.std.proofs.lemmas.Nat.{le-div, div-mul-add}
 use Rattle.band_level.proofs.Ranges.{flat_map_range_more}
 use Rattle.band_level.specs.Ranges.{FormatInRange}
 use Rattle.band_level.specs.Values.{Band, cells, spectrum_bytes, cell_value}
+use Rattle.band_level.specs.Holding.{Holds, cleared, held_bytes}
 use Rattle.band_level.specs.Scales.{unit}
 use Rattle.band_level.specs.Levelled.{Task, scale_by, stretch_for, fine_before, first_levels, spectrum_levels}
 use Rattle.band_level.specs.Spectra.{AreHeld, AreLevelled, LevelsSpectra}
 use Rattle.band_level.specs.Levelling.{Levelling, IsAt, StandsFor, IsWhole, Ends, Levels, band_of, pending}
 use Rattle.band_level.proofs.Agreeing.{own_stretch}
+use Rattle.band_level.proofs.Puts.{holds_nothing}
 use Rattle.band_level.proofs.Standing.{held_cells, some_bytes}
 
 -- ---- levels behind others
@@ -40,7 +42,7 @@ levels_behind k b a n = front_and_rest (spectrum_levels k b) a n
 
 -- the spectra to be levelled are held, and their scales are those of one stretch
 record IsReady (l : Levelling) (bytes : List ℕ) (start stretch : ℕ) : Type 0 where
-  inside : l.last * spectrum_bytes l.task.format ≤ length l.held
+  inside : l.last * spectrum_bytes l.task.format ≤ held_bytes l.task.format l.held
   scaled : l.is_scaled ≡ true
   here : (t : ℕ) → start ≤ t → t < start + l.last → stretch_for l.task (band_of l bytes) t ≡ stretch
 
@@ -140,7 +142,7 @@ module _ (l : Levelling) (count : ℕ) (fractions piece : List ℕ) (range : For
   carried_more n e i lt =
       made.carried i lt ∙ ap (λ m. fine_before l.task (band_of l bytes) i m % unit) (sym e)
 
--- nothing is held of all bytes
+-- nothing is left behind all bytes
 dropped : (xs : List ℕ) → drop (length xs) xs ≡ []
 dropped xs = drop_all (length xs) xs (omega arith)
 
@@ -193,7 +195,7 @@ gives_on l count fractions piece bytes out range some next makes left (start, st
 pub gives_last : (l : Levelling) (count : ℕ) (fractions piece bytes out : List ℕ) → FormatInRange l.task.format
     → 0 < l.task.plan.spectra → 0 < pending l → MakesSpectra l count fractions piece
     → l.has_ended ≡ false → l.first + count ≡ l.last → Levels l bytes out
-    → Levels (record l { fractions = fractions; piece = piece; held = []; first = 0; last = 0 }) bytes (out ++ piece)
+    → Levels (record l { fractions = fractions; piece = piece; held = cleared l.held; first = 0; last = 0 }) bytes (out ++ piece)
 gives_last l count fractions piece bytes out range some next makes goes_on all (start, stretch, stands, is_out) =
     elim stands.stage [
       | inl waits ↦ let e = waits.last in absurd (omega arith)
@@ -212,7 +214,8 @@ gives_last l count fractions piece bytes out range some next makes goes_on all (
               record {
                 place = record {
                   size = omega arith;
-                  held = sym (ap (λ m. drop m bytes) next_start ∙ dropped bytes);
+                  held = subst (λ (xs : List ℕ). Holds l.task.format (cleared l.held) xs)
+                      (sym (ap (λ m. drop m bytes) next_start ∙ dropped bytes)) (holds_nothing l.task.format l.held);
                   carried = carried_more l count fractions piece range some next makes bytes out start stretch stands is_out
                       (start + n + 0) (omega arith);
                 };
@@ -222,7 +225,7 @@ gives_last l count fractions piece bytes out range some next makes goes_on all (
                   goes_on = goes_on;
                   first = refl;
                   last = refl;
-                  short = short_of n sb some (some_bytes l.task.format range);
+                  short = let h = short_of n sb some (some_bytes l.task.format range) in omega arith;
                   scaled = λ is_scaled. omega arith;
                   begins = λ not_scaled. let e : true ≡ false = sym whole.scaled ∙ not_scaled in absurd (cc);
                 };

@@ -10,11 +10,13 @@ pub mod Narrowed
 pub mod Measured
 pub mod SpectraLevelled
 pub mod Shifts
+pub mod Puts
 pub mod Agreeing
 pub mod Standing
 pub mod Giving
 pub mod Ending
 pub mod Written
+pub mod WrittenRows
 pub mod Stepping
 pub mod Means
 pub mod SpectraMeans

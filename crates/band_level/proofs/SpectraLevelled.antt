@@ -3,7 +3,8 @@ use Rattle.std.proofs.Common.{◌≡◌, ℕ, ◌+◌, ◌-◌, ◌*◌, ◌/◌
 use Rattle.std.specs.List.{range_with_len, flat_map}
 use Rattle.std.proofs.lemmas.List.FromFn.{fill_by_all}
 use Rattle.band_level.proofs.Ranges.{flat_map_range_more}
-use Rattle.band_level.specs.Values.{Band, cells, cell_value}
+use Rattle.band_level.specs.Values.{Band, cells}
+use Rattle.band_level.specs.Holding.{Holding, held_value}
 use Rattle.band_level.specs.Scales.{Scale, unit}
 use Rattle.band_level.specs.Finished.{finished}
 use Rattle.band_level.specs.Levelled.{Task, is_masked, scale_at, fine, fine_before, whole, level, value_bytes, spectrum_levels}
@@ -64,10 +65,10 @@ spectrum_written k b t levels done long is finishes =
     (fill_by_all (λ i. level k b i t) levels (cells k.format) 0 long is))
 
 -- one spectrum that is held
-pub one_levelled : (k : Task) (held gains bases lifts row levels done old new before after : List ℕ) (first : ℕ)
+pub one_levelled : (k : Task) (held : Holding) (gains bases lifts row levels done old new before after : List ℕ) (first : ℕ)
     → length row ≡ cells k.format → length levels ≡ cells k.format
     → LevelsRow k.plan.most row gains bases lifts old levels new
-    → ((i : ℕ) → i < cells k.format → slice_index row i ≡ cell_value k.format held first i)
+    → ((i : ℕ) → i < cells k.format → slice_index row i ≡ held_value k.format held first i)
     → done ≡ finished k.plan (is_masked k) levels
     → after ≡ before ++ flat_map (value_bytes k.plan.bits) done
     → LevelsSpectra k held gains bases lifts first 1 old new before after
@@ -77,7 +78,7 @@ one_levelled k held gains bases lifts row levels done old new before after first
     let at : first + 0 ≡ first = omega arith in
     let on : start + 0 ≡ start = omega arith in
     let values : (i : ℕ) → i < cells f → slice_index row i ≡ b.value start i =
-    λ i lt. read i lt ∙ sym (ap (λ j. cell_value f held j i) at) ∙ is_held.values 0 i (omega arith) lt
+    λ i lt. read i lt ∙ sym (ap (λ j. held_value f held j i) at) ∙ is_held.values 0 i (omega arith) lt
     ∙ ap (λ t. b.value t i) on in
     let scales : HoldScales (cells f) (scale_at k b start) gains bases lifts =
     subst (λ (t : ℕ). HoldScales (cells f) (scale_at k b t) gains bases lifts) on (is_held.scales 0 (omega arith)) in
@@ -90,7 +91,7 @@ one_levelled k held gains bases lifts row levels done old new before after first
     }
 
 -- and one more behind others
-pub spectra_more : (k : Task) (held gains bases lifts old mid new before middle after : List ℕ)
+pub spectra_more : (k : Task) (held : Holding) (gains bases lifts old mid new before middle after : List ℕ)
     (first count at : ℕ) → at ≡ first + count
     → LevelsSpectra k held gains bases lifts first count old mid before middle
     → LevelsSpectra k held gains bases lifts at 1 mid new middle after
@@ -106,7 +107,7 @@ spectra_more k held gains bases lifts old mid new before middle after first coun
       values = λ t i lt here.
           let from : at + t ≡ first + count = omega arith in
           let to : start + count ≡ start + count + t = omega arith in
-          ap (λ j. cell_value f held j i) from ∙ is_held.values count i (omega arith) here
+          ap (λ j. held_value f held j i) from ∙ is_held.values count i (omega arith) here
           ∙ ap (λ u. b.value u i) to;
       scales = λ t lt.
           let to : start + count ≡ start + count + t = omega arith in
@@ -126,7 +127,7 @@ spectra_more k held gains bases lifts old mid new before middle after first coun
     }
 
 -- the same for a part of what is written to
-pub spectra_next : (k : Task) (held gains bases lifts old mid new before middle out : List ℕ)
+pub spectra_next : (k : Task) (held : Holding) (gains bases lifts old mid new before middle out : List ℕ)
     (first count m n : ℕ) → m ≡ n
     → LevelsSpectra k held gains bases lifts first count old mid before middle
     → LevelsSpectra k held gains bases lifts (first + count) 1 mid new middle (take m out)
@@ -135,7 +136,7 @@ spectra_next k held gains bases lifts old mid new before middle out first count 
     spectra_more k held gains bases lifts old mid new before middle (take n out) first count (first + count) refl so_far
     (subst (λ (j : ℕ). LevelsSpectra k held gains bases lifts (first + count) 1 mid new middle (take j out)) same one)
 
-pub spectra_all : (k : Task) (held gains bases lifts old new out : List ℕ)
+pub spectra_all : (k : Task) (held : Holding) (gains bases lifts old new out : List ℕ)
     (first t count m n : ℕ) → t ≡ count → m ≡ n
     → LevelsSpectra k held gains bases lifts first t old new [] (take m out)
     → LevelsSpectra k held gains bases lifts first count old new [] (take n out)

@@ -1,13 +1,14 @@
 -- What a leveller stands for, from call to call.
-use Rattle.std.proofs.Common.{◌≡◌, ℕ, refl, ◌+◌, ◌*◌, ◌/◌, ◌%◌, ◌<◌, ◌≤◌, min, inl, inr, Bool, true, false, List, ◌++◌, length, map, slice_index, ◌∙◌, sym, ap, arith, length-append}
+use Rattle.std.proofs.Common.{◌≡◌, ℕ, refl, ◌+◌, ◌*◌, ◌/◌, ◌%◌, ◌<◌, ◌≤◌, min, inl, inr, Bool, true, false, List, ◌++◌, length, drop, map, slice_index, ◌∙◌, sym, ap, subst, arith, length-append}
 use Rattle.std.specs.List.{range_with_len}
 use Rattle.std.proofs.Math.Nat.{mul-le-mul, mul-le-mul_right}
 use Rattle.std.proofs.lemmas.Nat.{le-div}
-use Rattle.std.proofs.lemmas.List.{get_or_append_left, get_or-drop, drop-append-le}
+use Rattle.std.proofs.lemmas.List.{drop-append-le}
 use Rattle.band_level.specs.declared.format.Format.{Format}
 use Rattle.band_level.specs.declared.plan.Plan.{Plan}
 use Rattle.band_level.specs.Ranges.{FormatInRange, PlanInRange}
 use Rattle.band_level.specs.Values.{band, cells, spectrum_bytes, cell_value}
+use Rattle.band_level.specs.Holding.{Holding, Holds, Puts, held_bytes, held_value}
 use Rattle.band_level.specs.Moments.{fair_moments}
 use Rattle.band_level.specs.Columns.{column}
 use Rattle.band_level.specs.Scales.{scale_of, unit}
@@ -16,7 +17,7 @@ use Rattle.band_level.specs.Levelled.{Task, is_masked, stretch_values, scale_by,
 use Rattle.band_level.specs.Spectra.{written_bytes}
 use Rattle.band_level.specs.Levelling.{Levelling, IsAt, StandsFor, Waits, Levels, band_of, pending}
 use Rattle.band_level.specs.Steps.{HeldScales}
-use Rattle.band_level.proofs.Shifts.{cell_shift}
+use Rattle.band_level.proofs.Puts.{cell_more, cell_dropped, held_is}
 use Rattle.band_level.proofs.Agreeing.{Agree, before_agrees, levels_agree, scales_agree, maps_agree}
 
 -- ---- sizes
@@ -67,31 +68,32 @@ prefix_agrees k bytes more stretches start range some is_start fits =
       others = omega arith;
       values = λ t i lt inside.
           let part : (t + 1) * spectrum_bytes f ≤ start * spectrum_bytes f = mul-le-mul_right _ (omega arith) in
-          cell_shift f bytes (bytes ++ more) 0 (length bytes) t t i range
-          (λ k low. let e : k ≡ 0 + k = omega arith in
-          sym (get_or_append_left bytes more 0 k low) ∙ ap (λ j. slice_index (bytes ++ more) j) e)
-          (omega arith) (omega arith) inside;
+          cell_more f bytes more t i range (omega arith) inside;
     }
 
 -- what is held of the bytes
 pub held_cells : (l : Levelling) (bytes : List ℕ) (start t i : ℕ) → FormatInRange l.task.format → IsAt l bytes start
-    → (t + 1) * spectrum_bytes l.task.format ≤ length l.held → i < cells l.task.format
-    → cell_value l.task.format l.held t i ≡ cell_value l.task.format bytes (start + t) i
+    → (t + 1) * spectrum_bytes l.task.format ≤ held_bytes l.task.format l.held → i < cells l.task.format
+    → held_value l.task.format l.held t i ≡ cell_value l.task.format bytes (start + t) i
 held_cells l bytes start t i range place fits here =
-    cell_shift l.task.format l.held bytes (start * spectrum_bytes l.task.format) (length l.held) t (start + t) i range
-    (λ k low. ap (λ xs. slice_index xs k) place.held ∙ get_or-drop (start * spectrum_bytes l.task.format) bytes k 0)
-    (omega arith) fits here
+    let f = l.task.format in
+    let n = start * spectrum_bytes f in
+    let size = place.held.size in
+    held_is f l.held (drop n bytes) t i range place.held (omega arith) here
+    ∙ cell_dropped f bytes n t (start + t) i range (omega arith) (omega arith) here
 
 -- bytes that are held behind the others
-at_more : (l : Levelling) (bytes piece : List ℕ) (start stretches : ℕ) → FormatInRange l.task.format
-    → 0 < l.task.plan.spectra → start ≡ stretches * l.task.plan.spectra → l.first ≡ 0 → IsAt l bytes start
-    → IsAt (record l { held = l.held ++ piece }) (bytes ++ piece) start
-at_more l bytes piece start stretches range some is_start first place =
+at_more : (l : Levelling) (next : Holding) (bytes piece : List ℕ) (start stretches : ℕ) → FormatInRange l.task.format
+    → 0 < l.task.plan.spectra → start ≡ stretches * l.task.plan.spectra → l.first ≡ 0
+    → Puts l.task.format l.held next piece → IsAt l bytes start → IsAt (record l { held = next }) (bytes ++ piece) start
+at_more l next bytes piece start stretches range some is_start first puts place =
     let size = place.size in
+    let n = start * spectrum_bytes l.task.format in
     let agree = prefix_agrees l.task bytes piece stretches start range some is_start (omega arith) in
     record {
-      size = omega (arith, length-append bytes piece, length-append l.held piece);
-      held = ap (λ xs. xs ++ piece) place.held ∙ sym (drop-append-le _ bytes piece (omega arith));
+      size = omega (arith, length-append bytes piece, puts.size);
+      held = subst (λ (xs : List ℕ). Holds l.task.format next xs) (sym (drop-append-le n bytes piece (omega arith)))
+          (puts.holds (drop n bytes) place.held);
       carried = λ i lt. place.carried i lt
           ∙ ap (λ x. x % unit)
           (before_agrees l.task (band_of l bytes) (band_of l (bytes ++ piece)) stretches agree (start + l.first) i
@@ -131,22 +133,22 @@ begins l start stretch waits = begins_on l start stretch l.is_scaled refl waits
 
 -- ---- bytes that leave the stretch short
 
-pub takes_short : (l : Levelling) (bytes piece out : List ℕ) → FormatInRange l.task.format → 0 < l.task.plan.spectra
-    → l.has_ended ≡ false → pending l ≡ 0
-    → length (l.held ++ piece) < l.task.plan.spectra * spectrum_bytes l.task.format
-    → Levels l bytes out → Levels (record l { held = l.held ++ piece }) (bytes ++ piece) out
-takes_short l bytes piece out range some goes_on none short (start, stretch, stands, is_out) =
+pub takes_short : (l : Levelling) (next : Holding) (bytes piece out : List ℕ) → FormatInRange l.task.format
+    → 0 < l.task.plan.spectra → l.has_ended ≡ false → pending l ≡ 0 → Puts l.task.format l.held next piece
+    → held_bytes l.task.format next < l.task.plan.spectra * spectrum_bytes l.task.format
+    → Levels l bytes out → Levels (record l { held = next }) (bytes ++ piece) out
+takes_short l next bytes piece out range some goes_on none puts short (start, stretch, stands, is_out) =
     let waits = is_waiting l bytes start stretch stands goes_on none in
     let on = begins l start stretch waits in
     let size = stands.place.size in (
       start,
       stretch,
       record {
-        place = at_more l bytes piece start on.0 range some on.1 waits.first stands.place;
+        place = at_more l next bytes piece start on.0 range some on.1 waits.first puts stands.place;
         order = stands.order;
         scales = λ is_scaled i lt.
-            let next = waits.scaled is_scaled in
-            let agree = prefix_agrees l.task bytes piece (stretch + 1) start range some next (omega arith) in
+            let is_start = waits.scaled is_scaled in
+            let agree = prefix_agrees l.task bytes piece (stretch + 1) start range some is_start (omega arith) in
             stands.scales is_scaled i lt
             ∙ scales_agree l.task (band_of l bytes) (band_of l (bytes ++ piece)) (stretch + 1) agree stretch i
             (omega arith) lt;
@@ -167,15 +169,15 @@ takes_short l bytes piece out range some goes_on none short (start, stretch, sta
 -- the scales of what is held are those of a stretch, where the first spectra that are held are its own
 pub held_scales : (l : Levelling) (bytes : List ℕ) (start stretch count : ℕ) (gains bases lifts : List ℕ)
     → FormatInRange l.task.format → IsAt l bytes start → start ≡ stretch * l.task.plan.spectra
-    → count * spectrum_bytes l.task.format ≤ length l.held
+    → count * spectrum_bytes l.task.format ≤ held_bytes l.task.format l.held
     → min l.task.plan.spectra (band_of l bytes).spectra ≡ count
     → HeldScales l l.held count gains bases lifts
     → HoldScales (cells l.task.format) (scale_by l.task (band_of l bytes) stretch) gains bases lifts
 held_scales l bytes start stretch count gains bases lifts range place is_start fits is_count scales i lt =
     let f = l.task.format in
     let n = l.task.plan.spectra in
-    let values : column (cell_value f l.held) count i ≡ stretch_values l.task (band_of l bytes) stretch i =
-    maps_agree (λ j. cell_value f l.held j i) (λ j. cell_value f bytes (stretch * n + j) i) 0 count
+    let values : column (held_value f l.held) count i ≡ stretch_values l.task (band_of l bytes) stretch i =
+    maps_agree (λ j. held_value f l.held j i) (λ j. cell_value f bytes (stretch * n + j) i) 0 count
     (λ j low high.
     let part : (j + 1) * spectrum_bytes f ≤ count * spectrum_bytes f = mul-le-mul_right _ (omega arith) in
     let e : start + j ≡ stretch * n + j = omega arith in
@@ -184,7 +186,7 @@ held_scales l bytes start stretch count gains bases lifts range place is_start f
     scales i lt ∙ ap (λ xs. scale_of l.task.plan (is_masked l.task i) (fair_moments xs)) values
 
 -- with its scales a whole stretch is to be levelled
-abbrev pub with_stretch : Levelling → List ℕ → List ℕ → List ℕ → List ℕ → Levelling
+abbrev pub with_stretch : Levelling → Holding → List ℕ → List ℕ → List ℕ → Levelling
 with_stretch l held gains bases lifts = record l {
   held = held;
   gains = gains;
@@ -195,15 +197,17 @@ with_stretch l held gains bases lifts = record l {
   last = l.task.plan.spectra;
 }
 
-pub takes_whole : (l : Levelling) (bytes piece out gains bases lifts : List ℕ) → FormatInRange l.task.format
-    → 0 < l.task.plan.spectra → l.has_ended ≡ false → pending l ≡ 0
-    → length (l.held ++ piece) ≡ l.task.plan.spectra * spectrum_bytes l.task.format
-    → HeldScales l (l.held ++ piece) l.task.plan.spectra gains bases lifts
-    → Levels l bytes out → Levels (with_stretch l (l.held ++ piece) gains bases lifts) (bytes ++ piece) out
-takes_whole l bytes piece out gains bases lifts range some goes_on none long scales (start, stretch, stands, is_out) =
+pub takes_whole : (l : Levelling) (next : Holding) (bytes piece out gains bases lifts : List ℕ)
+    → FormatInRange l.task.format → 0 < l.task.plan.spectra → l.has_ended ≡ false → pending l ≡ 0
+    → Puts l.task.format l.held next piece
+    → held_bytes l.task.format next ≡ l.task.plan.spectra * spectrum_bytes l.task.format
+    → HeldScales l next l.task.plan.spectra gains bases lifts
+    → Levels l bytes out → Levels (with_stretch l next gains bases lifts) (bytes ++ piece) out
+takes_whole l next bytes piece out gains bases lifts range some goes_on none puts long scales
+    (start, stretch, stands, is_out) =
     let waits = is_waiting l bytes start stretch stands goes_on none in
     let on = begins l start stretch waits in
-    let place = at_more l bytes piece start on.0 range some on.1 waits.first stands.place in
+    let place = at_more l next bytes piece start on.0 range some on.1 waits.first puts stands.place in
     let size = place.size in
     let sb = spectrum_bytes l.task.format in
     let all : start + l.task.plan.spectra ≤ length (bytes ++ piece) / sb =
@@ -218,7 +222,7 @@ takes_whole l bytes piece out gains bases lifts range some goes_on none long sca
               ∙ ap (λ n. fine_before l.task (band_of l (bytes ++ piece)) i (start + n) % unit) waits.first;
         };
         order = omega arith;
-        scales = λ is_scaled. held_scales (record l { held = l.held ++ piece }) (bytes ++ piece) start on.0
+        scales = λ is_scaled. held_scales (record l { held = next }) (bytes ++ piece) start on.0
             l.task.plan.spectra gains bases lifts range place on.1 (omega arith) (omega arith) scales;
         stage = inr (inl record {
           goes_on = goes_on;

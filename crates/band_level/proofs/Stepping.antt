@@ -2,7 +2,8 @@
 use Rattle.std.proofs.Common.{◌≡◌, ℕ, refl, ◌+◌, ◌*◌, ◌/◌, ◌<◌, ◌≤◌, ◌⊎◌, inl, inr, Bool, true, false, List, [], ◌++◌, length, ◌∙◌, sym, ap, subst, arith}
 use Rattle.std.proofs.lemmas.Bool.{cases_lt}
 use Rattle.band_level.specs.Ranges.{FormatInRange}
-use Rattle.band_level.specs.Values.{cells, spectrum_bytes, cell_value}
+use Rattle.band_level.specs.Values.{cells, spectrum_bytes}
+use Rattle.band_level.specs.Holding.{Holding, Puts, cleared, held_bytes, held_value}
 use Rattle.band_level.specs.Moments.{fair_moments}
 use Rattle.band_level.specs.Columns.{column}
 use Rattle.band_level.specs.Scales.{scale_of}
@@ -18,20 +19,21 @@ use Rattle.band_level.proofs.Ending.{ends_scaled, ends_short}
 
 -- ---- scales
 
-abbrev ScalesOf : Levelling → List Bool → List ℕ → ℕ → List ℕ → List ℕ → List ℕ → Type 0
+abbrev ScalesOf : Levelling → List Bool → Holding → ℕ → List ℕ → List ℕ → List ℕ → Type 0
 ScalesOf l masked held count gains bases lifts = HoldScales (cells l.task.format)
     (λ i. scale_of l.task.plan (marks_cell masked l.task.format.polarisations i)
-    (fair_moments (column (cell_value l.task.format held) count i)))
+    (fair_moments (column (held_value l.task.format held) count i)))
     gains bases lifts
 
-pub measures : (v l : Levelling) (count : ℕ) (masked : List Bool) (held gains bases lifts gains' bases' lifts' : List ℕ)
+pub measures : (v l : Levelling) (count : ℕ) (masked : List Bool) (held : Holding)
+    (gains bases lifts gains' bases' lifts' : List ℕ)
     → v ≡ l → masked ≡ v.task.masked → held ≡ v.held → gains' ≡ gains → bases' ≡ bases → lifts' ≡ lifts
     → ScalesOf v masked held count gains bases lifts
     → Measures l (record v { gains = gains'; bases = bases'; lifts = lifts'; is_scaled = true }) count
 measures v l count masked held gains bases lifts gains' bases' lifts' view is_masked is_held g b f scales =
     let here : ScalesOf v v.task.masked v.held count gains bases lifts =
     subst (λ (ms : List Bool). ScalesOf v ms v.held count gains bases lifts) is_masked
-    (subst (λ (hs : List ℕ). ScalesOf v masked hs count gains bases lifts) is_held scales) in
+    (subst (λ (hs : Holding). ScalesOf v masked hs count gains bases lifts) is_held scales) in
     subst (λ (x : Levelling).
     Measures x (record v { gains = gains'; bases = bases'; lifts = lifts'; is_scaled = true }) count) view
     record {
@@ -60,31 +62,32 @@ begun v mid l n view made is_n =
 -- ---- bytes that are taken
 
 pub takes_part : (l m : Levelling) (piece : List ℕ) → FormatInRange l.task.format → 0 < l.task.plan.spectra
-    → l.has_ended ≡ false → pending l ≡ 0 → m ≡ record l { held = l.held ++ piece }
-    → length m.held < stretch_bytes m.task → Takes l m piece
-takes_part l m piece range some goes_on none is short =
-    let few : length (l.held ++ piece) < stretch_bytes l.task =
-    subst (λ (x : Levelling). length x.held < stretch_bytes x.task) is short in
+    → l.has_ended ≡ false → pending l ≡ 0 → m ≡ record l { held = m.held } → Puts l.task.format l.held m.held piece
+    → held_bytes m.task.format m.held < stretch_bytes m.task → Takes l m piece
+takes_part l m piece range some goes_on none is puts short =
+    let few : held_bytes l.task.format m.held < stretch_bytes l.task =
+    subst (λ (x : Levelling). held_bytes x.task.format x.held < stretch_bytes x.task) is short in
     subst (λ (x : Levelling). Takes l x piece) (sym is)
     record {
       task = refl;
       ended = refl;
-      levels = λ bytes out. takes_short l bytes piece out range some goes_on none few;
+      levels = λ bytes out. takes_short l m.held bytes piece out range some goes_on none puts few;
     }
 
 pub takes_full : (l mid m : Levelling) (piece : List ℕ) → FormatInRange l.task.format → 0 < l.task.plan.spectra
-    → l.has_ended ≡ false → pending l ≡ 0 → mid ≡ record l { held = l.held ++ piece }
-    → length mid.held ≡ stretch_bytes mid.task → Begins mid m → Takes l m piece
-takes_full l mid m piece range some goes_on none is long begins =
-    let all : length (l.held ++ piece) ≡ stretch_bytes l.task =
-    subst (λ (x : Levelling). length x.held ≡ stretch_bytes x.task) is long in
-    let after : Begins (record l { held = l.held ++ piece }) m = subst (λ (x : Levelling). Begins x m) is begins in
+    → l.has_ended ≡ false → pending l ≡ 0 → mid ≡ record l { held = mid.held }
+    → Puts l.task.format l.held mid.held piece
+    → held_bytes mid.task.format mid.held ≡ stretch_bytes mid.task → Begins mid m → Takes l m piece
+takes_full l mid m piece range some goes_on none is puts long begins =
+    let all : held_bytes l.task.format mid.held ≡ stretch_bytes l.task =
+    subst (λ (x : Levelling). held_bytes x.task.format x.held ≡ stretch_bytes x.task) is long in
+    let after : Begins (record l { held = mid.held }) m = subst (λ (x : Levelling). Begins x m) is begins in
     subst (λ (x : Levelling). Takes l x piece) (sym after.same)
     record {
       task = refl;
       ended = refl;
       levels = λ bytes out.
-          takes_whole l bytes piece out m.gains m.bases m.lifts range some goes_on none all after.scales;
+          takes_whole l mid.held bytes piece out m.gains m.bases m.lifts range some goes_on none puts all after.scales;
     }
 
 -- ---- spectra that are levelled
@@ -105,7 +108,7 @@ module _ (l m : Levelling) (count : ℕ) (fractions piece : List ℕ) (range : F
       }
 
   gives_all : l.has_ended ≡ false → l.first + count ≡ l.last
-      → m ≡ record l { fractions = fractions; piece = piece; held = []; first = 0; last = 0 } → Gives l m
+      → m ≡ record l { fractions = fractions; piece = piece; held = cleared l.held; first = 0; last = 0 } → Gives l m
   gives_all goes_on all is =
       subst (λ (x : Levelling). Gives l x) (sym is)
       record {
@@ -119,7 +122,7 @@ module _ (l m : Levelling) (count : ℕ) (fractions piece : List ℕ) (range : F
       → ((l.has_ended ≡ true) ⊎ (l.first + count < l.last)
       → m ≡ record l { fractions = fractions; piece = piece; first = l.first + count })
       → (l.has_ended ≡ false → l.first + count ≡ l.last
-      → m ≡ record l { fractions = fractions; piece = piece; held = []; first = 0; last = 0 })
+      → m ≡ record l { fractions = fractions; piece = piece; held = cleared l.held; first = 0; last = 0 })
       → Gives l m
   at_end true e all on over =
       gives_more (λ goes_on. let h : true ≡ false = sym e ∙ goes_on in absurd (cc)) (on (inl e))
@@ -128,7 +131,7 @@ module _ (l m : Levelling) (count : ℕ) (fractions piece : List ℕ) (range : F
   pub gives : ((l.has_ended ≡ true) ⊎ (l.first + count < l.last)
       → m ≡ record l { fractions = fractions; piece = piece; first = l.first + count })
       → (l.has_ended ≡ false → l.first + count ≡ l.last
-      → m ≡ record l { fractions = fractions; piece = piece; held = []; first = 0; last = 0 })
+      → m ≡ record l { fractions = fractions; piece = piece; held = cleared l.held; first = 0; last = 0 })
       → Gives l m
   gives on over = elim (cases_lt (l.first + count) l.last) [
     | inl lt ↦ gives_more (λ goes_on. lt) (on (inr lt))
@@ -138,7 +141,7 @@ module _ (l m : Levelling) (count : ℕ) (fractions piece : List ℕ) (range : F
 pub gives_by : (l mid m : Levelling) (count : ℕ) → FormatInRange l.task.format → 0 < l.task.plan.spectra
     → 0 < pending l → 0 < count → MakesPiece l mid count
     → ((mid.has_ended ≡ true) ⊎ (mid.first + count < mid.last) → m ≡ record mid { first = mid.first + count })
-    → (mid.has_ended ≡ false → mid.first + count ≡ mid.last → m ≡ record mid { held = []; first = 0; last = 0 })
+    → (mid.has_ended ≡ false → mid.first + count ≡ mid.last → m ≡ record mid { held = cleared mid.held; first = 0; last = 0 })
     → Gives l m
 gives_by l mid m count range some next some_count makes on over =
     let fractions = mid.fractions in
@@ -148,7 +151,7 @@ gives_by l mid m count range some next some_count makes on over =
     let on_it = subst (λ (x : Levelling). (x.has_ended ≡ true) ⊎ (x.first + count < x.last)
     → m ≡ record x { first = x.first + count }) is on in
     let over_it = subst (λ (x : Levelling). x.has_ended ≡ false → x.first + count ≡ x.last
-    → m ≡ record x { held = []; first = 0; last = 0 }) is over in
+    → m ≡ record x { held = cleared x.held; first = 0; last = 0 }) is over in
     gives l m count fractions piece range some next some_count
     record { few = makes.few; levels = makes.levels } on_it over_it
 
@@ -163,8 +166,8 @@ makes_piece v l count fractions piece view few levels =
 
 module _ (l mid m : Levelling) (count : ℕ) (range : FormatInRange l.task.format) (some : 0 < l.task.plan.spectra)
     (goes_on : l.has_ended ≡ false) (none : pending l ≡ 0)
-    (is_count : count ≡ length l.held / spectrum_bytes l.task.format)
-    (inside : count * spectrum_bytes l.task.format ≤ length l.held)
+    (is_count : count ≡ held_bytes l.task.format l.held / spectrum_bytes l.task.format)
+    (inside : count * spectrum_bytes l.task.format ≤ held_bytes l.task.format l.held)
     (kept : (count ≡ 0) ⊎ (l.is_scaled ≡ true) → mid ≡ l)
     (made : 0 < count → l.is_scaled ≡ false → Measures l mid count)
     (is : m ≡ record mid { first = 0; last = count; has_ended = true }) where

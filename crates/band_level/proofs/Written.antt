@@ -4,6 +4,7 @@ use Rattle.std.proofs.Math.Nat.{mul-le-mul_right, div-mul-le_self}
 use Rattle.std.proofs.lemmas.Bool.{cases_lt}
 use Rattle.std.proofs.lemmas.List.{take_at, get_or_past, get_or-replicate}
 use Rattle.std.proofs.lemmas.Simd.{length-replicate}
+use Rattle.band_level.specs.Holding.{Holding}
 use Rattle.band_level.specs.Levelled.{Task}
 use Rattle.band_level.specs.Spectra.{LevelsSpectra}
 use Rattle.band_level.specs.Scales.{Scale}
@@ -28,8 +29,8 @@ scales_in cells scale gains bases lifts gains' bases' lifts' g b l holds i lt =
     ∙ holds i lt
 
 -- the levelling of lists that are the same
-pub levels_in : (k k' : Task) (held gains bases lifts old new piece held' gains' bases' lifts' old' new' piece' : List ℕ)
-    (first count : ℕ) → k ≡ k' → held ≡ held' → gains ≡ gains' → bases ≡ bases' → lifts ≡ lifts' → old ≡ old' → new ≡ new'
+pub levels_in : (k k' : Task) (held : Holding) (gains bases lifts old new piece : List ℕ) (held' : Holding)
+    (gains' bases' lifts' old' new' piece' : List ℕ) (first count : ℕ) → k ≡ k' → held ≡ held' → gains ≡ gains' → bases ≡ bases' → lifts ≡ lifts' → old ≡ old' → new ≡ new'
     → piece ≡ piece' → LevelsSpectra k held gains bases lifts first count old new [] piece
     → LevelsSpectra k' held' gains' bases' lifts' first count old' new' [] piece'
 levels_in k k' held gains bases lifts old new piece held' gains' bases' lifts' old' new' piece' first count t a b c d e g h
@@ -40,7 +41,7 @@ levels_in k k' held gains bases lifts old new piece held' gains' bases' lifts' o
     (subst (λ (x : List ℕ). LevelsSpectra k' held' gains' bases' x first count old new [] piece) d
     (subst (λ (x : List ℕ). LevelsSpectra k' held' gains' x lifts first count old new [] piece) c
     (subst (λ (x : List ℕ). LevelsSpectra k' held' x bases lifts first count old new [] piece) b
-    (subst (λ (x : List ℕ). LevelsSpectra k' x gains bases lifts first count old new [] piece) a
+    (subst (λ (x : Holding). LevelsSpectra k' x gains bases lifts first count old new [] piece) a
     (subst (λ (x : Task). LevelsSpectra x held gains bases lifts first count old new [] piece) t levels)))))))
 
 -- ---- lists of zeroes

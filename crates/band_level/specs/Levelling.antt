@@ -2,15 +2,16 @@
 -- Source: this project's choice.
 use Rattle.std.specs.Prelude.{ℕ, ◌≡◌, ◌+◌, ◌-◌, ◌*◌, ◌%◌, ◌<◌, ◌≤◌, ◌⊎◌, ◌++◌, Bool, true, false, List, length, drop, slice_index}
 use Rattle.band_level.specs.Values.{Band, band, cells, spectrum_bytes}
+use Rattle.band_level.specs.Holding.{Holding, Holds, held_bytes}
 use Rattle.band_level.specs.Scales.{unit}
 use Rattle.band_level.specs.Rows.{HoldScales}
 use Rattle.band_level.specs.Levelled.{Task, scale_by, stretch_for, fine_before, first_levels, levelled}
 
--- A stretch, as the bytes that came of it. Its spectra from `first` up to, but without, `last` are to be levelled next:
+-- A stretch, as what is held of it. Its spectra from `first` up to, but without, `last` are to be levelled next:
 -- none until the stretch is whole, or the data have ended. `piece` has the bytes that were levelled last.
 pub record Levelling : Type 0 where
   pub task : Task
-  pub held : List ℕ
+  pub held : Holding
   pub first : ℕ
   pub last : ℕ
   pub is_scaled : Bool
@@ -33,7 +34,8 @@ pub record Waits (l : Levelling) (start stretch : ℕ) : Type 0 where
   pub goes_on : l.has_ended ≡ false
   pub first : l.first ≡ 0
   pub last : l.last ≡ 0
-  pub short : length l.held < l.task.plan.spectra * spectrum_bytes l.task.format
+  pub short : held_bytes l.task.format l.held
+      < l.task.plan.spectra * spectrum_bytes l.task.format
   pub scaled : l.is_scaled ≡ true → start ≡ (stretch + 1) * l.task.plan.spectra
   pub begins : l.is_scaled ≡ false → start ≡ 0
 
@@ -42,7 +44,8 @@ pub record IsWhole (l : Levelling) (start stretch : ℕ) : Type 0 where
   pub goes_on : l.has_ended ≡ false
   pub last : l.last ≡ l.task.plan.spectra
   pub some : l.first < l.last
-  pub long : length l.held ≡ l.task.plan.spectra * spectrum_bytes l.task.format
+  pub long : held_bytes l.task.format l.held
+      ≡ l.task.plan.spectra * spectrum_bytes l.task.format
   pub scaled : l.is_scaled ≡ true
   pub begins : start ≡ stretch * l.task.plan.spectra
 
@@ -57,8 +60,9 @@ pub record Ends (l : Levelling) (bytes : List ℕ) (start stretch : ℕ) : Type 
 -- These bytes were taken since the opening, and those from spectrum `start` on are held. What each cell has carried on is
 -- that of the spectra before those to be levelled.
 pub record IsAt (l : Levelling) (bytes : List ℕ) (start : ℕ) : Type 0 where
-  pub size : start * spectrum_bytes l.task.format + length l.held ≡ length bytes
-  pub held : l.held ≡ drop (start * spectrum_bytes l.task.format) bytes
+  pub size : start * spectrum_bytes l.task.format + held_bytes l.task.format l.held
+      ≡ length bytes
+  pub held : Holds l.task.format l.held (drop (start * spectrum_bytes l.task.format) bytes)
   pub carried : (i : ℕ) → i < cells l.task.format → slice_index l.fractions i
       ≡ fine_before l.task (band_of l bytes) i (start + l.first) % unit
 

@@ -5,6 +5,7 @@ pub mod Finished
 pub mod Shares
 pub mod Levelled
 pub mod Ranges
+pub mod Holding
 pub mod Levelling
 pub mod Steps
 pub mod Laws

@@ -4,18 +4,17 @@ use Rattle.std.specs.Prelude.{ℕ, ◌≡◌, ◌*◌, ◌<◌, ◌≤◌, Bool,
 use Rattle.band_level.specs.declared.format.Format.{Format}
 use Rattle.band_level.specs.declared.plan.Plan.{Plan}
 use Rattle.band_level.specs.Values.{cells, spectrum_bytes}
+use Rattle.band_level.specs.Holding.{Holding, held_bytes}
 use Rattle.band_level.specs.Scales.{unit}
 use Rattle.band_level.specs.Spectra.{written_bytes}
 use Rattle.band_level.specs.Ranges.{FormatInRange, PlanInRange}
 
--- the bytes of a stretch, and which of its spectra are to be levelled
-pub record StretchFits (f : Format) (p : Plan) (spectrum : ℕ) (held : List ℕ)
-    (filled first last : ℕ) : Type 0 where
-  pub spectrum_is : spectrum ≡ spectrum_bytes f
-  pub held_long : length held ≡ p.spectra * spectrum
-  pub filled_in : filled ≤ length held
+-- what is held of a stretch, and which of its spectra are to be levelled
+pub record StretchFits (f : Format) (p : Plan) (held : Holding) (first last : ℕ) : Type 0 where
+  pub same : held.format ≡ f
+  pub room : held.room ≡ p.spectra * spectrum_bytes f
   pub order : first ≤ last
-  pub inside : last * spectrum ≤ filled
+  pub inside : last * spectrum_bytes f ≤ held_bytes f held
   pub few : last ≤ p.spectra
 
 -- what was carried on, and room for levels and their bytes

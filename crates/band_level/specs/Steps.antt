@@ -1,7 +1,8 @@
 -- What the steps of a leveller leave.
 -- Source: this project's choice.
 use Rattle.std.specs.Prelude.{ℕ, ◌≡◌, ◌+◌, ◌*◌, ◌≤◌, true, List, []}
-use Rattle.band_level.specs.Values.{cells, spectrum_bytes, cell_value}
+use Rattle.band_level.specs.Values.{cells, spectrum_bytes}
+use Rattle.band_level.specs.Holding.{Holding, held_value}
 use Rattle.band_level.specs.Moments.{fair_moments}
 use Rattle.band_level.specs.Columns.{column}
 use Rattle.band_level.specs.Scales.{scale_of}
@@ -15,10 +16,10 @@ abbrev pub stretch_bytes : Task → ℕ
 stretch_bytes k = k.plan.spectra * spectrum_bytes k.format
 
 -- the scales of the first spectra that are held
-abbrev pub HeldScales : Levelling → List ℕ → ℕ → List ℕ → List ℕ → List ℕ → Type 0
+abbrev pub HeldScales : Levelling → Holding → ℕ → List ℕ → List ℕ → List ℕ → Type 0
 HeldScales l held count gains bases lifts = HoldScales (cells l.task.format)
     (λ i. scale_of l.task.plan (is_masked l.task i)
-    (fair_moments (column (cell_value l.task.format held) count i)))
+    (fair_moments (column (held_value l.task.format held) count i)))
     gains bases lifts
 
 -- they are made

@@ -1,15 +1,18 @@
 // Bytes that are fed, as levelled bytes.
-ghost use Rattle.std.specs.Prelude.{◌≡◌, ◌+◌, ◌*◌, ◌/◌, ◌<◌, ◌≤◌, ◌⊎◌, ◌++◌, [], true, false, length, replicate, take, IfOk};
+ghost use Rattle.std.specs.Prelude.{◌≡◌, ◌+◌, ◌*◌, ◌/◌, ◌<◌, ◌≤◌, ◌⊎◌, [], true, false, length, take, IfOk};
 ghost use Rattle.band_level.specs.Values.{cells, spectrum_bytes};
 ghost use Rattle.band_level.specs.Ranges.{FormatInRange, PlanInRange};
+ghost use Rattle.band_level.specs.Holding.{Puts, cleared, held_bytes};
 ghost use Rattle.band_level.specs.Levelling.{Levelling, Levels, Takes, Gives, EndsAs, IsDone, pending};
 ghost use Rattle.band_level.specs.Steps.{Begins, MakesPiece, Measures, stretch_bytes};
 ghost use Rattle.band_level.specs.Rows.{AreLong, FarLong, NarrowLong, ScalesFit};
 ghost use Rattle.band_level.specs.Sound.{PieceFits, StretchFits, TaskFits};
 
 use crate::format::Format;
+use crate::held::Held;
 use crate::measure::measure;
 use crate::plan::Plan;
+use crate::space::{bytes, longs, words};
 use crate::spectra::level_spectra;
 use psr_base::Memory;
 use std::alloc::Global;
@@ -26,11 +29,8 @@ pub struct Leveller {
     plan: Plan,
     // the marks of the channels, in the order of the file
     masked: Vec<bool>,
-    // how many bytes a spectrum has
-    spectrum: usize,
-    // the bytes of a stretch, of which so many are filled
-    held: Vec<u8>,
-    filled: usize,
+    // what came of the stretch
+    held: Held,
     // which spectra of the stretch are to be levelled next
     first: usize,
     last: usize,
@@ -65,7 +65,7 @@ impl Model for Leveller {
 
     ghost view = { λ l. record {
       task = record { format = l.format; plan = l.plan; masked = l.masked.items };
-      held = take l.filled l.held.items;
+      held = l.held;
       first = l.first;
       last = l.last;
       is_scaled = l.is_scaled;
@@ -79,7 +79,7 @@ impl Model for Leveller {
 
     ghost invariant = { λ l. record {
       task : TaskFits l.format l.plan l.masked.items;
-      stretch : StretchFits l.format l.plan l.spectrum l.held.items l.filled l.first l.last;
+      stretch : StretchFits l.format l.plan l.held l.first l.last;
       scales : ScalesFit (cells l.format) l.gains.items l.bases.items l.lifts.items;
       space : AreLong (cells l.format) l.row.items l.lows.items l.highs.items l.counts.items
           l.totals.items l.squares.items;
@@ -109,15 +109,12 @@ impl Leveller {
         ensures nothing { IfOk result (λ l. Levels l [] []) }
     {
         let cells = (format.channels * format.polarisations) as usize;
-        let spectrum = format.average as usize * (cells * (format.bits as usize / 8));
         let written = cells * (plan.bits as usize / 8);
         Ok(Leveller {
             format,
             plan,
             masked: marks(alloc, masked)?,
-            spectrum,
-            held: bytes(alloc, plan.spectra as usize * spectrum)?,
-            filled: 0,
+            held: Held::open(alloc, format, plan.spectra)?,
             first: 0,
             last: 0,
             is_scaled: false,
@@ -149,7 +146,6 @@ impl Leveller {
         ensures format { FormatInRange self.now.task.format }
         ensures spectra { 0 < self.now.task.plan.spectra }
         ensures few { self.now.task.plan.spectra ≤ 1048576 }
-        ensures held { length self.now.held ≤ stretch_bytes self.now.task }
         ensures order { self.now.first ≤ self.now.last }
     {
         let _ = &self.format;
@@ -177,28 +173,29 @@ impl Leveller {
     // Holds bytes until the stretch is whole.
     fn hold(&mut self, bytes: &[u8]) -> usize
         ensures within { result ≤ length bytes.now }
-        ensures held { self.new
-            ≡ record self.old { held = self.old.held ++ take result bytes.now } }
+        ensures same { self.new ≡ record self.old { held = self.new.held } }
+        ensures held { Puts self.old.task.format self.old.held self.new.held
+            (take result bytes.now) }
         ensures rest { result < length bytes.now
-            → length self.new.held ≡ stretch_bytes self.old.task }
+            → held_bytes self.old.task.format self.new.held ≡ stretch_bytes self.old.task }
     {
-        let count = bytes.len().min(self.held.len() - self.filled);
-        put(self.held.as_mut_slice(), self.filled, &bytes[..count]);
-        self.filled += count;
-        count
+        self.held.put(bytes)
     }
 
     // Whether the stretch is whole.
     fn is_full(&self) -> bool
-        ensures full { result ≡ true → length self.now.held ≡ stretch_bytes self.now.task }
-        ensures short { result ≡ false → length self.now.held < stretch_bytes self.now.task }
+        ensures full { result ≡ true
+            → held_bytes self.now.task.format self.now.held ≡ stretch_bytes self.now.task }
+        ensures short { result ≡ false
+            → held_bytes self.now.task.format self.now.held < stretch_bytes self.now.task }
     {
-        self.filled == self.held.len()
+        self.held.is_full()
     }
 
     // Makes the scales of a whole stretch, whose spectra are to be levelled next.
     fn begin(&mut self)
-        requires { length self.old.held ≡ stretch_bytes self.old.task }
+        requires { held_bytes self.old.task.format self.old.held
+            ≡ stretch_bytes self.old.task }
         ensures { Begins self.old self.new }
     {
         self.bounds();
@@ -212,11 +209,12 @@ impl Leveller {
     fn measure(&mut self, count: usize)
         requires some { 0 < count }
         requires most { count ≤ 1048576 }
-        requires inside { count * spectrum_bytes self.old.task.format ≤ length self.old.held }
+        requires inside { count * spectrum_bytes self.old.task.format
+            ≤ held_bytes self.old.task.format self.old.held }
         ensures { Measures self.old self.new count }
     {
         measure(
-            &self.held.as_slice()[..self.filled],
+            &self.held,
             self.format,
             self.plan,
             self.masked.as_slice(),
@@ -264,7 +262,7 @@ impl Leveller {
         let written = self.row.len() * (self.plan.bits as usize / 8);
         let count = (self.last - self.first).min(self.piece.len() / written);
         level_spectra(
-            &self.held.as_slice()[..self.filled],
+            &self.held,
             self.format,
             self.plan,
             self.masked.as_slice(),
@@ -291,13 +289,13 @@ impl Leveller {
         ensures on { (self.old.has_ended ≡ true) ⊎ (self.old.first + count < self.old.last)
             → self.new ≡ record self.old { first = self.old.first + count } }
         ensures over { self.old.has_ended ≡ false → self.old.first + count ≡ self.old.last
-            → self.new ≡ record self.old { held = []; first = 0; last = 0 } }
+            → self.new ≡ record self.old { held = cleared self.old.held; first = 0; last = 0 } }
     {
         self.first += count;
         if self.first < self.last || self.has_ended {
             return;
         }
-        self.filled = 0;
+        self.held.clear();
         self.first = 0;
         self.last = 0;
     }
@@ -326,7 +324,8 @@ impl Leveller {
     // Makes the scales of the spectra that are held, where there are none.
     fn scale_rest(&mut self, count: usize)
         requires few { count ≤ self.old.task.plan.spectra }
-        requires inside { count * spectrum_bytes self.old.task.format ≤ length self.old.held }
+        requires inside { count * spectrum_bytes self.old.task.format
+            ≤ held_bytes self.old.task.format self.old.held }
         ensures task { self.new.task ≡ self.old.task }
         ensures held { self.new.held ≡ self.old.held }
         ensures kept { (count ≡ 0) ⊎ (self.old.is_scaled ≡ true) → self.new ≡ self.old }
@@ -342,17 +341,20 @@ impl Leveller {
 
     // How many whole spectra are held.
     fn whole_spectra(&self) -> usize
-        ensures count { result ≡ length self.now.held / spectrum_bytes self.now.task.format }
+        ensures count { result ≡ held_bytes self.now.task.format self.now.held
+            / spectrum_bytes self.now.task.format }
         ensures few { result ≤ self.now.task.plan.spectra }
-        ensures inside { result * spectrum_bytes self.now.task.format ≤ length self.now.held }
+        ensures inside { result * spectrum_bytes self.now.task.format
+            ≤ held_bytes self.now.task.format self.now.held }
     {
-        self.filled / self.spectrum
+        self.held.whole_spectra()
     }
 
     // Has these spectra levelled next, which are the last.
     fn stop(&mut self, count: usize)
         requires few { count ≤ self.old.task.plan.spectra }
-        requires inside { count * spectrum_bytes self.old.task.format ≤ length self.old.held }
+        requires inside { count * spectrum_bytes self.old.task.format
+            ≤ held_bytes self.old.task.format self.old.held }
         ensures { self.new ≡ record self.old { first = 0; last = count; has_ended = true } }
     {
         self.first = 0;
@@ -361,38 +363,9 @@ impl Leveller {
     }
 }
 
-// Puts further bytes behind those that are held.
-fn put(held: &mut [u8], filled: usize, bytes: &[u8])
-    requires { filled + length bytes.now ≤ length held.old }
-    ensures { take (filled + length bytes.now) held.new ≡ take filled held.old ++ bytes.now }
-{
-    held[filled..filled + bytes.len()].copy_from_slice(bytes);
-}
-
 // A copy of marks.
 fn marks(alloc: Global, masked: &[bool]) -> Result<Vec<bool>, Memory>
     ensures { IfOk result (λ v. v.items ≡ masked.now) }
 {
     Ok(masked.to_vec(alloc)?)
-}
-
-// So many bytes that are 0.
-fn bytes(alloc: Global, count: usize) -> Result<Vec<u8>, Memory>
-    ensures { IfOk result (λ v. v.items ≡ replicate count 0) }
-{
-    Ok(vec![in alloc; 0; count]?)
-}
-
-// So many values of 32 bits that are 0.
-fn words(alloc: Global, count: usize) -> Result<Vec<u32>, Memory>
-    ensures { IfOk result (λ v. v.items ≡ replicate count 0) }
-{
-    Ok(vec![in alloc; 0; count]?)
-}
-
-// So many values of 64 bits that are 0.
-fn longs(alloc: Global, count: usize) -> Result<Vec<u64>, Memory>
-    ensures { IfOk result (λ v. v.items ≡ replicate count 0) }
-{
-    Ok(vec![in alloc; 0; count]?)
 }

@@ -3,6 +3,7 @@
 
 mod finish;
 mod format;
+mod held;
 mod laws;
 mod leveller;
 mod levels;
@@ -12,7 +13,9 @@ mod narrow;
 mod plan;
 mod row;
 mod scale;
+mod space;
 mod spectra;
+mod sums;
 
 pub use format::Format;
 pub use laws::{means_are_kept, spectra_have_the_mean};

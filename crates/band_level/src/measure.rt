@@ -1,6 +1,7 @@
 // The scales of all cells, by the values of a stretch.
 ghost use Rattle.std.specs.Prelude.{◌≡◌, ℕ, ◌*◌, ◌/◌, ◌<◌, ◌≤◌, ◌≢◌, ◌⊎◌, length, slice_index};
-ghost use Rattle.band_level.specs.Values.{cells, spectrum_bytes, cell_value};
+ghost use Rattle.band_level.specs.Values.{cells};
+ghost use Rattle.band_level.specs.Holding.{HasSpectra, held_value};
 ghost use Rattle.band_level.specs.Moments.{moments, fair_moments};
 ghost use Rattle.band_level.specs.Columns.{AreNear, AreSmall, column, near_column, moments_held};
 ghost use Rattle.band_level.specs.Rows.{AreLong, FarLong, HoldScales, ScalesFit, SetsScales, scale_held};
@@ -11,6 +12,7 @@ ghost use Rattle.band_level.specs.Levelled.{marks_cell};
 ghost use Rattle.band_level.specs.Sound.{TaskFits};
 
 use crate::format::Format;
+use crate::held::Held;
 use crate::moments::{add_up, add_up_far, leave_out};
 use crate::plan::Plan;
 use crate::scale::{Moments, near_bounds, scale_of_cell};
@@ -104,7 +106,7 @@ fn set_scales(
 
 // The moments of all values of each cell.
 fn measure_all(
-    bytes: &[u8],
+    held: &Held,
     format: Format,
     count: usize,
     row: &mut [u32],
@@ -113,26 +115,26 @@ fn measure_all(
     squares: &mut [u64],
 )
     requires format { FormatInRange format }
-    requires inside { count * spectrum_bytes format ≤ length bytes.now }
+    requires held { HasSpectra format held.now count }
     requires some { 0 < count }
     requires most { count ≤ 1048576 }
     requires row { length row.old ≡ cells format }
     requires sums { FarLong (cells format) counts.old totals.old squares.old }
     ensures moments { (i : ℕ) → i < cells format
         → moments_held counts.new totals.new squares.new i
-        ≡ moments (column (cell_value format bytes.now) count i) }
+        ≡ moments (column (held_value format held.now) count i) }
     ensures some { (i : ℕ) → i < cells format → 0 < slice_index counts.new i }
     ensures small { AreSmall 1048576 counts.new totals.new squares.new }
     ensures values { (t i : ℕ) → t < count → i < cells format
-        → cell_value format bytes.now t i ≤ 4194303 }
+        → held_value format held.now t i ≤ 4194303 }
 {
     counts.fill(count as u32);
-    add_up(bytes, format, count, row, totals, squares);
+    add_up(held, format, count, row, totals, squares);
 }
 
 // The moments of the values of each cell between its bounds, from those of all.
 fn measure_near(
-    bytes: &[u8],
+    held: &Held,
     format: Format,
     count: usize,
     row: &mut [u32],
@@ -146,23 +148,23 @@ fn measure_near(
     far_squares: &mut [u64],
 )
     requires format { FormatInRange format }
-    requires inside { count * spectrum_bytes format ≤ length bytes.now }
+    requires held { HasSpectra format held.now count }
     requires most { count ≤ 1048576 }
     requires space { AreLong (cells format) row.old lows.now highs.now counts.old totals.old
         squares.old }
     requires far { FarLong (cells format) far_counts.old far_totals.old far_squares.old }
     requires moments { (i : ℕ) → i < cells format
         → moments_held counts.old totals.old squares.old i
-        ≡ moments (column (cell_value format bytes.now) count i) }
+        ≡ moments (column (held_value format held.now) count i) }
     requires values { (t i : ℕ) → t < count → i < cells format
-        → cell_value format bytes.now t i ≤ 4194303 }
+        → held_value format held.now t i ≤ 4194303 }
     ensures moments { (i : ℕ) → i < cells format
         → moments_held counts.new totals.new squares.new i
-        ≡ moments (near_column (cell_value format bytes.now) lows.now highs.now count i) }
+        ≡ moments (near_column (held_value format held.now) lows.now highs.now count i) }
     ensures small { AreSmall 1048576 counts.new totals.new squares.new }
 {
     add_up_far(
-        bytes,
+        held,
         format,
         count,
         row,
@@ -177,7 +179,7 @@ fn measure_near(
 
 /// The scale of each cell by the values of `count` spectra. The row, the bounds and the sums are working space.
 pub fn measure(
-    bytes: &[u8],
+    held: &Held,
     format: Format,
     plan: Plan,
     masked: &[bool],
@@ -196,7 +198,7 @@ pub fn measure(
     lifts: &mut [u64],
 )
     requires task { TaskFits format plan masked.now }
-    requires inside { count * spectrum_bytes format ≤ length bytes.now }
+    requires held { HasSpectra format held.now count }
     requires some { 0 < count }
     requires most { count ≤ 1048576 }
     requires space { AreLong (cells format) row.old lows.old highs.old counts.old totals.old
@@ -206,11 +208,11 @@ pub fn measure(
     ensures fit { ScalesFit (cells format) gains.new bases.new lifts.new }
     ensures scales { HoldScales (cells format)
         (λ i. scale_of plan (marks_cell masked.now format.polarisations i)
-        (fair_moments (column (cell_value format bytes.now) count i)))
+        (fair_moments (column (held_value format held.now) count i)))
         gains.new bases.new lifts.new }
 {
     let polarisations = format.polarisations;
-    measure_all(bytes, format, count, row, counts, totals, squares);
+    measure_all(held, format, count, row, counts, totals, squares);
     set_bounds(counts, totals, squares, lows, highs);
     set_scales(
         plan,
@@ -224,7 +226,7 @@ pub fn measure(
         lifts,
     );
     measure_near(
-        bytes,
+        held,
         format,
         count,
         row,

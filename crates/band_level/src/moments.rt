@@ -1,12 +1,13 @@
 // The sums of each cell in a stretch: of all values, and of those beyond two bounds.
 ghost use Rattle.std.specs.Prelude.{◌≡◌, ℕ, ◌+◌, ◌*◌, ◌<◌, ◌≤◌, false, length, slice_index};
-ghost use Rattle.band_level.specs.Values.{cells, spectrum_bytes, cell_value};
+ghost use Rattle.band_level.specs.Values.{cells};
+ghost use Rattle.band_level.specs.Holding.{HasSpectra, held_value};
 ghost use Rattle.band_level.specs.Ranges.{FormatInRange};
 ghost use Rattle.band_level.specs.Rows.{FarLong};
 ghost use Rattle.band_level.specs.Columns.{AddsFar, AreBelow, AreFarSums, AreSmall, AreTotals, LeavesOut, far_part};
 
 use crate::format::Format;
-use crate::row::read_row;
+use crate::held::Held;
 
 // A value beyond the bounds; else 0.
 #[inline(always)]
@@ -142,9 +143,9 @@ fn add_row(row: &[u32], totals: &mut [u64], squares: &mut [u64])
     add_squares(row, squares);
 }
 
-/// Makes the sums of `count` spectra. The row is working space.
+/// Makes the sums of the first `count` spectra. The row is working space.
 pub fn add_up(
-    bytes: &[u8],
+    held: &Held,
     format: Format,
     count: usize,
     row: &mut [u32],
@@ -152,28 +153,28 @@ pub fn add_up(
     squares: &mut [u64],
 )
     requires format { FormatInRange format }
-    requires inside { count * spectrum_bytes format ≤ length bytes.now }
+    requires held { HasSpectra format held.now count }
     requires most { count ≤ 1048576 }
     requires row { length row.old ≡ cells format }
     requires totals { length totals.old ≡ cells format }
     requires squares { length squares.old ≡ cells format }
-    ensures sums { AreTotals (cell_value format bytes.now) (cells format) count totals.new
+    ensures sums { AreTotals (held_value format held.now) (cells format) count totals.new
         squares.new }
     ensures small { AreBelow count totals.new squares.new }
     ensures values { (t i : ℕ) → t < count → i < cells format
-        → cell_value format bytes.now t i ≤ 4194303 }
+        → held_value format held.now t i ≤ 4194303 }
 {
     totals.fill(0);
     squares.fill(0);
     for t in 0..count {
-        read_row(row, bytes, format, t);
+        held.read(row, format, t);
         add_row(row, totals, squares);
     }
 }
 
 /// Makes the sums of the values of `count` spectra that lie beyond the bounds of their cells. The row is working space.
 pub fn add_up_far(
-    bytes: &[u8],
+    held: &Held,
     format: Format,
     count: usize,
     row: &mut [u32],
@@ -184,20 +185,20 @@ pub fn add_up_far(
     squares: &mut [u64],
 )
     requires format { FormatInRange format }
-    requires inside { count * spectrum_bytes format ≤ length bytes.now }
+    requires held { HasSpectra format held.now count }
     requires most { count ≤ 1048576 }
     requires row { length row.old ≡ cells format }
     requires lows { length lows.now ≡ cells format }
     requires highs { length highs.now ≡ cells format }
     requires sums { FarLong (cells format) counts.old totals.old squares.old }
-    ensures sums { AreFarSums (cell_value format bytes.now) (cells format) count lows.now
+    ensures sums { AreFarSums (held_value format held.now) (cells format) count lows.now
         highs.now counts.new totals.new squares.new }
 {
     counts.fill(0);
     totals.fill(0);
     squares.fill(0);
     for t in 0..count {
-        read_row(row, bytes, format, t);
+        held.read(row, format, t);
         add_far(row, lows, highs, counts, totals, squares);
     }
 }

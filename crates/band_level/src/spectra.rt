@@ -1,6 +1,7 @@
 // Spectra that are held, levelled and written.
 ghost use Rattle.std.specs.Prelude.{◌≡◌, ℕ, ◌+◌, ◌*◌, ◌/◌, ◌<◌, ◌≤◌, [], true, length, take, slice_index};
-ghost use Rattle.band_level.specs.Values.{cells, spectrum_bytes, most_value};
+ghost use Rattle.band_level.specs.Values.{cells, most_value};
+ghost use Rattle.band_level.specs.Holding.{HasSpectra};
 ghost use Rattle.band_level.specs.Scales.{unit};
 ghost use Rattle.band_level.specs.Rows.{AreNarrow, NarrowLong, RowsFit, ScalesFit};
 ghost use Rattle.band_level.specs.Ranges.{FormatInRange};
@@ -9,10 +10,10 @@ ghost use Rattle.band_level.specs.Spectra.{LevelsSpectra, task_of, written_bytes
 
 use crate::finish::finish_row;
 use crate::format::Format;
+use crate::held::Held;
 use crate::levels::{level_row, write_levels};
 use crate::narrow::narrow_scales;
 use crate::plan::Plan;
-use crate::row::read_row;
 
 // The greatest value that a cell may have.
 fn most_value(format: Format) -> u32
@@ -25,7 +26,7 @@ fn most_value(format: Format) -> u32
 
 /// Levels a spectrum that is held, and writes it from a place on. The row and the levels are working space.
 fn level_spectrum(
-    bytes: &[u8],
+    held: &Held,
     format: Format,
     plan: Plan,
     masked: &[bool],
@@ -44,7 +45,7 @@ fn level_spectrum(
     at: usize,
 )
     requires task { TaskFits format plan masked.now }
-    requires inside { (t + 1) * spectrum_bytes format ≤ length bytes.now }
+    requires held { HasSpectra format held.now (t + 1) }
     requires scales { ScalesFit (cells format) gains.now bases.now lifts.now }
     requires long { NarrowLong (cells format) narrow_gains.now narrow_bases.now
         narrow_lifts.now }
@@ -53,11 +54,11 @@ fn level_spectrum(
     requires rows { RowsFit (cells format) fractions.old row.old levels.old }
     requires room { at + written_bytes format plan ≤ length out.old }
     ensures carried { (i : ℕ) → slice_index fractions.new i < unit }
-    ensures levels { LevelsSpectra (task_of format plan masked.now) bytes.now gains.now
+    ensures levels { LevelsSpectra (task_of format plan masked.now) held.now gains.now
         bases.now lifts.now t 1 fractions.old fractions.new (take at out.old)
         (take (at + written_bytes format plan) out.new) }
 {
-    read_row(row, bytes, format, t);
+    held.read(row, format, t);
     level_row(
         row,
         most_value(format),
@@ -79,7 +80,7 @@ fn level_spectrum(
 /// Levels spectra that are held, and writes them from the front on. The narrow scales, the row and the levels are
 /// working space.
 pub fn level_spectra(
-    bytes: &[u8],
+    held: &Held,
     format: Format,
     plan: Plan,
     masked: &[bool],
@@ -98,14 +99,14 @@ pub fn level_spectra(
 )
     requires task { TaskFits format plan masked.now }
     requires few { first + count ≤ 1048576 }
-    requires inside { (first + count) * spectrum_bytes format ≤ length bytes.now }
+    requires held { HasSpectra format held.now (first + count) }
     requires scales { ScalesFit (cells format) gains.now bases.now lifts.now }
     requires long { NarrowLong (cells format) narrow_gains.old narrow_bases.old
         narrow_lifts.old }
     requires rows { RowsFit (cells format) fractions.old row.old levels.old }
     requires room { count * written_bytes format plan ≤ length out.old }
     ensures carried { (i : ℕ) → slice_index fractions.new i < unit }
-    ensures levels { LevelsSpectra (task_of format plan masked.now) bytes.now gains.now
+    ensures levels { LevelsSpectra (task_of format plan masked.now) held.now gains.now
         bases.now lifts.now first count fractions.old fractions.new []
         (take (count * written_bytes format plan) out.new) }
 {
@@ -122,7 +123,7 @@ pub fn level_spectra(
     );
     for t in 0..count {
         level_spectrum(
-            bytes,
+            held,
             format,
             plan,
             masked,

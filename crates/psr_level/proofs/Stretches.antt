@@ -11,6 +11,7 @@ use mathlib.Core.List.{IsPrefix}
 use Rattle.band_level.specs.declared.format.Format.{Format}
 use Rattle.band_level.specs.Ranges.{FormatInRange}
 use Rattle.band_level.specs.Values.{Band, band, cells, spectrum_bytes}
+use Rattle.band_level.specs.Holding.{held_bytes}
 use Rattle.band_level.specs.Levelled.{Task, first_levels, levelled, spectrum_levels}
 use Rattle.band_level.specs.Levelling.{Levelling, Levels, StandsFor, Waits, IsWhole, Ends, pending, band_of}
 use Rattle.psr_level.specs.Draining.{LevelsAreFronts, whole_stretches}
@@ -55,8 +56,8 @@ waiting : (l : Levelling) (bytes out : List ℕ) (start stretch : ℕ) → Stand
     out ≡ whole_stretches l.task bytes
 waiting l bytes out start stretch s made w =
     let whole = begins l start stretch w in
-    let count = stretches (length bytes) (spectrum_bytes l.task.format) l.task.plan.spectra start (length l.held)
-    whole.0 s.place.size w.short whole.1 in
+    let count = stretches (length bytes) (spectrum_bytes l.task.format) l.task.plan.spectra start
+    (held_bytes l.task.format l.held) whole.0 s.place.size w.short whole.1 in
     let first = w.first in
     let same : start + l.first ≡ start = omega arith in
     made ∙ ap (λ (n : ℕ). first_levels l.task (band l.task.format bytes) n) (same ∙ sym count)
@@ -144,7 +145,7 @@ going l bytes out range on was = by was.2.stage
         let order = w.some in
         let last = w.last in
         let some : 0 < n = omega (arith, order, last) in
-        let count = whole_count (length bytes) (spectrum_bytes k.format) n was.0 (length l.held) was.1
+        let count = whole_count (length bytes) (spectrum_bytes k.format) n was.0 (held_bytes k.format l.held) was.1
         (some_bytes k.format range) some was.2.place.size w.long w.begins in
         front_follows out (first_levels k (band k.format bytes) (was.0 + l.first)) (whole_stretches k bytes)
         (same_front out (first_levels k (band k.format bytes) (was.0 + l.first)) was.3)

@@ -1,6 +1,7 @@
 use Rattle.std.proofs.Common.{◌≡◌, ℕ, ◌<◌, slice_index, replicate, ◌∙◌, ap, arith, rules}
 use Rattle.std.proofs.lemmas.List.{get_or-replicate}
-use Rattle.band_level.specs.Values.{cells, cell_value}
+use Rattle.band_level.specs.Values.{cells}
+use Rattle.band_level.specs.Holding.{held_value}
 use Rattle.band_level.proofs.Measured.{all_moments, all_small}
 use Rattle.band_level.proofs.measure.measure_all.Goals as goal
 
@@ -9,7 +10,7 @@ returns-clause-moments c =
     let filled : c.fill.new.self ≡ replicate (cells c.args.format) c.args.count = search rules in
     let counted : (i : ℕ) → i < cells c.args.format → slice_index c.fill.new.self i ≡ c.args.count =
     λ i lt. ap (λ xs. slice_index xs i) filled ∙ get_or-replicate (cells c.args.format) i c.args.count 0 lt in
-    all_moments (cell_value c.args.format c.args.bytes.now) (cells c.args.format) c.args.count _ _ _ counted
+    all_moments (held_value c.args.format c.args.held.now) (cells c.args.format) c.args.count _ _ _ counted
     c.add_up.ensures.sums
 
 pub returns-clause-some : goal.returns-clause-some

@@ -2,6 +2,7 @@ use Rattle.std.proofs.Common.{◌≡◌, ℕ, ◌+◌, ◌*◌, ◌/◌, ◌≤�
 use Rattle.std.proofs.Math.Nat.{mul-le-mul_right}
 use Rattle.band_level.specs.Rows.{NarrowAt}
 use Rattle.band_level.specs.Spectra.{task_of, written_bytes}
+use Rattle.band_level.proofs.Puts.{has_fewer}
 use Rattle.band_level.proofs.SpectraLevelled.{spectra_next, spectra_all}
 use Rattle.band_level.proofs.spectra.level_spectra.Goals as goal
 
@@ -25,7 +26,7 @@ level_spectrum-requires-clause-room c =
 pub loop-t-preserved : goal.loop-t-preserved
 loop-t-preserved c = record {
   carried = c.level_spectrum.ensures.carried;
-  levels = spectra_next (task_of c.args.format c.args.plan c.args.masked.now) c.args.bytes.now c.args.gains.now c.args.bases.now c.args.lifts.now
+  levels = spectra_next (task_of c.args.format c.args.plan c.args.masked.now) c.args.held.now c.args.gains.now c.args.bases.now c.args.lifts.now
       c.args.fractions.now c.loop-t.fractions c.level_spectrum.new.fractions []
       (take (c.loop-t.t * (length c.args.row.now * (c.args.plan.bits / 8))) c.loop-t.out) c.level_spectrum.new.out
       c.args.first c.loop-t.t _ _
@@ -35,7 +36,7 @@ loop-t-preserved c = record {
 
 pub returns-clause-levels : goal.returns-clause-levels
 returns-clause-levels c =
-    spectra_all (task_of c.args.format c.args.plan c.args.masked.now) c.args.bytes.now c.args.gains.now c.args.bases.now c.args.lifts.now
+    spectra_all (task_of c.args.format c.args.plan c.args.masked.now) c.args.held.now c.args.gains.now c.args.bases.now c.args.lifts.now
     c.args.fractions.now c.loop-t.fractions c.loop-t.out c.args.first c.loop-t.t c.args.count _ _ (omega arith)
     (ap (λ n. n * (length c.args.row.now * (c.args.plan.bits / 8))) (let e : c.loop-t.t ≡ c.args.count = omega arith in e)
     ∙ ap (λ n. c.args.count * (n * (c.args.plan.bits / 8))) c.requires.rows.row_long)
@@ -49,3 +50,8 @@ level_spectrum-requires-clause-narrow c = λ yes i lt.
     (slice_index c.args.lifts.now i) (slice_index made.narrow_gains i) (slice_index made.narrow_bases i)
     (slice_index made.narrow_lifts i)) c.most_value-most.ensures.value
     (c.narrow_scales-is_narrow.ensures yes i (omega arith))
+
+pub level_spectrum-requires-clause-held : goal.level_spectrum-requires-clause-held
+level_spectrum-requires-clause-held c =
+    has_fewer c.args.format c.args.held.now (c.args.first + c.loop-t.t + 1) (c.args.first + c.args.count) (omega arith)
+    c.requires.held

@@ -6,6 +6,6 @@ use Rattle.band_level.proofs.spectra.level_spectra.Given as goal
 abbrev pub invariant-loop-t : goal.invariant-loop-t
 invariant-loop-t l = record {
   carried : (i : ℕ) → slice_index l.fractions i < unit;
-  levels : LevelsSpectra (task_of l.format l.plan l.masked) l.bytes l.gains l.bases l.lifts l.first l.t
+  levels : LevelsSpectra (task_of l.format l.plan l.masked) l.held l.gains l.bases l.lifts l.first l.t
       l.initial.fractions l.fractions [] (take (l.t * l.written) l.out);
 }

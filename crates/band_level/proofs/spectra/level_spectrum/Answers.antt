@@ -8,9 +8,9 @@ use Rattle.band_level.proofs.spectra.level_spectrum.Goals as goal
 pub returns-clause-levels : goal.returns-clause-levels
 returns-clause-levels c =
     let long : cells c.args.format ≡ length c.finish_row.new.levels = omega arith in
-    one_levelled (task_of c.args.format c.args.plan c.args.masked.now) c.args.bytes.now _ _ _ c.read_row.new.row
+    one_levelled (task_of c.args.format c.args.plan c.args.masked.now) c.args.held.now _ _ _ c.read.new.row
     c.level_row.new.levels c.finish_row.new.levels _ _ _ _
-    c.args.t (omega arith) (omega arith) c.level_row.ensures.levels c.read_row.ensures.values c.finish_row.ensures.levels
+    c.args.t (omega arith) (omega arith) c.level_row.ensures.levels c.read.ensures.values c.finish_row.ensures.levels
     (ap (λ n. take (c.args.at + n * (c.args.plan.bits / 8)) c.write_levels.new.out) long ∙ c.write_levels.ensures)
 
 pub level_row-requires-clause-narrow : goal.level_row-requires-clause-narrow

@@ -11,7 +11,8 @@ returns-then-is_full-clause-takes c =
     let goes_on : c.args.self.now.has_ended ≡ false =
     sym (ap (λ (o : Levelling). o.has_ended) c.self.view_is) ∙ c.if-self-2.false in
     takes_full c.args.self.now c.hold-count.new.self c.begin.new.self _ c.bounds.ensures.format c.bounds.ensures.spectra
-    goes_on none c.hold-count.ensures.held (c.is_full.ensures.full c.if-is_full.true) c.begin.ensures
+    goes_on none c.hold-count.ensures.same c.hold-count.ensures.held (c.is_full.ensures.full c.if-is_full.true)
+    c.begin.ensures
 
 pub returns-else-is_full-clause-takes : goal.returns-else-is_full-clause-takes
 returns-else-is_full-clause-takes c =
@@ -21,4 +22,4 @@ returns-else-is_full-clause-takes c =
     let goes_on : c.args.self.now.has_ended ≡ false =
     sym (ap (λ (o : Levelling). o.has_ended) c.self.view_is) ∙ c.if-self-2.false in
     takes_part c.args.self.now c.hold-count.new.self _ c.bounds.ensures.format c.bounds.ensures.spectra
-    goes_on none c.hold-count.ensures.held (c.is_full.ensures.short c.if-is_full.false)
+    goes_on none c.hold-count.ensures.same c.hold-count.ensures.held (c.is_full.ensures.short c.if-is_full.false)

@@ -1,22 +1,15 @@
 use Rattle.std.proofs.Common.{◌≡◌, ℕ, List, refl, ◌+◌, ◌*◌, ◌/◌, ◌<◌, ◌≤◌, length, slice_index, take, ◌∙◌, sym, ap, subst, arith}
-use Rattle.std.proofs.lemmas.List.{length-take-le}
 use Rattle.std.proofs.Math.Nat.{mul-le-mul_right, div-mul-le_self}
 use Rattle.std.proofs.lemmas.Nat.{le-div}
-use Rattle.band_level.specs.Values.{cells, spectrum_bytes}
+use Rattle.band_level.specs.Values.{cells}
 use Rattle.band_level.specs.Spectra.{task_of, written_bytes}
 use Rattle.band_level.specs.Scales.{unit}
 use Rattle.band_level.specs.Levelling.{Levelling}
+use Rattle.band_level.proofs.Puts.{has_fewer}
 use Rattle.band_level.proofs.Standing.{some_written}
 use Rattle.band_level.proofs.Stepping.{makes_piece}
 use Rattle.band_level.proofs.Written.{written, long_written, levels_in}
 use Rattle.band_level.proofs.leveller.Leveller.make_piece.Goals as goal
-
--- spectra up to the last lie within the bytes
-inside_of : (first count last size filled : ℕ) → first + count ≤ last → last * size ≤ filled
-    → (first + count) * size ≤ filled
-inside_of first count last size filled few fits =
-    let part : (first + count) * size ≤ last * size = mul-le-mul_right size few in
-    omega arith
 
 -- as many pieces as fit
 room_for : (count room wide written : ℕ) → wide ≡ written → count ≤ room / wide → count * written ≤ room
@@ -26,17 +19,13 @@ room_for count room wide written same few =
     let e : count * wide ≡ count * written = ap (λ w. count * w) same in
     omega arith
 
-pub level_spectra-requires-clause-inside : goal.level_spectra-requires-clause-inside
-level_spectra-requires-clause-inside c =
+pub level_spectra-requires-clause-held : goal.level_spectra-requires-clause-held
+level_spectra-requires-clause-held c =
     let f = c.self.inside in
     let s = c.self.invariant.stretch in
-    let size : f.last * f.spectrum ≡ f.last * spectrum_bytes f.format = ap (λ n. f.last * n) s.spectrum_is in
-    let fits = s.inside in
-    let long = length-take-le f.filled c.as_slice.result.now
-    (let within = s.filled_in in omega (arith, ap length c.as_slice.ensures.value)) in
-    let part = inside_of f.first c.min-count.result f.last (spectrum_bytes f.format) f.filled
-    (let order = s.order in omega arith) (omega arith) in
-    omega arith
+    let order = s.order in
+    has_fewer f.format f.held (f.first + c.min-count.result) f.last (omega arith)
+    record { same = s.same; inside = s.inside }
 
 pub level_spectra-requires-clause-room : goal.level_spectra-requires-clause-room
 level_spectra-requires-clause-room c =
@@ -136,9 +125,8 @@ returns-clause-makes c =
     let order = c.self.invariant.stretch.order in
     makes_piece _ c.args.self.now c.min-count.result _ _ c.self.view_is (omega arith)
     (levels_in _ _ _ _ _ _ _ _ _ _ _ _ _ _ _ _ f.first c.min-count.result
-    (ap (task_of f.format f.plan) c.as_slice-2.ensures.value)
-    (ap (λ (xs : List ℕ). take f.filled xs) c.as_slice.ensures.value) c.as_slice-3.ensures.value
-    c.as_slice-4.ensures.value c.as_slice-5.ensures.value c.as_mut_slice-4.ensures.value (sym fr)
+    (ap (task_of f.format f.plan) c.as_slice.ensures.value) refl c.as_slice-2.ensures.value
+    c.as_slice-3.ensures.value c.as_slice-4.ensures.value c.as_mut_slice-4.ensures.value (sym fr)
     (ap (λ n. take (c.min-count.result * n) c.level_spectra.new.out) (sym wide)
     ∙ ap (λ (xs : List ℕ). take (c.min-count.result * (c.len.result * (f.plan.bits / 8))) xs) (sym out))
     c.level_spectra.ensures.levels)

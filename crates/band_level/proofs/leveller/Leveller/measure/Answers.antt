@@ -1,4 +1,8 @@
-use Rattle.std.proofs.Common.{ℕ, List, length, take, ◌∙◌, sym, ap}
+use Rattle.std.proofs.Common.{ℕ, List, refl, length, ◌∙◌, sym, ap, subst}
+use Rattle.std.proofs.Common.{◌*◌, ◌≤◌}
+use Rattle.band_level.specs.Values.{spectrum_bytes}
+use Rattle.band_level.specs.Holding.{held_bytes}
+use Rattle.band_level.specs.Levelling.{Levelling}
 use Rattle.band_level.proofs.Written.{written, long_written}
 use Rattle.band_level.proofs.Stepping.{measures}
 use Rattle.band_level.proofs.leveller.Leveller.measure.Goals as goal
@@ -52,5 +56,11 @@ returns c =
     let l = written c.measure.new.lifts c.self.inside.lifts.items c.self.inside.lifts.len
     (c.measure.auto.lifts ∙ c.as_mut_slice-12.ensures.len) in
     measures _ c.args.self.now c.args.count _ _ c.measure.new.gains c.measure.new.bases c.measure.new.lifts _ _ _
-    c.self.view_is c.as_slice-2.ensures.value
-    (ap (λ (xs : List ℕ). take c.self.inside.filled xs) c.as_slice.ensures.value) g b l c.measure.ensures.scales
+    c.self.view_is c.as_slice.ensures.value refl g b l c.measure.ensures.scales
+
+pub measure-requires-clause-held : goal.measure-requires-clause-held
+measure-requires-clause-held c = record {
+  same = c.self.invariant.stretch.same;
+  inside = subst (λ (o : Levelling). c.args.count * spectrum_bytes o.task.format ≤ held_bytes o.task.format o.held)
+      (sym c.self.view_is) c.requires.inside;
+}

@@ -43,7 +43,7 @@ invariant_of-result c =
     ≡ max (262144 / written_bytes c.args.format c.args.plan) 1 * written_bytes c.args.format c.args.plan =
     ap (λ m. m * written_bytes c.args.format c.args.plan) c.max.ensures in
     omega (arith, piece_least 262144 (written_bytes c.args.format c.args.plan)) in
-    let piece = zero_long c.in_ok-bytes-2.field-0.items _ c.in_ok-bytes-2.ensures in
+    let piece = zero_long c.in_ok-bytes.field-0.items _ c.in_ok-bytes.ensures in
     record {
       task = record {
         format = c.requires.format;
@@ -51,9 +51,8 @@ invariant_of-result c =
         masked_long = ap length c.in_ok-marks.ensures ∙ c.requires.masked;
       };
       stretch = record {
-        spectrum_is = refl;
-        held_long = zero_long c.in_ok-bytes.field-0.items _ c.in_ok-bytes.ensures;
-        filled_in = omega arith;
+        same = c.in_ok-open.ensures.format;
+        room = c.in_ok-open.ensures.room;
         order = omega arith;
         inside = omega arith;
         few = omega arith;
@@ -89,5 +88,5 @@ invariant_of-result c =
 pub returns-clause-nothing : goal.returns-clause-nothing
 returns-clause-nothing c =
     let some = c.requires.plan.some_spectra in
-    starts _ c.requires.format (omega arith) refl refl refl refl refl
+    starts _ c.requires.format (omega arith) c.in_ok-open.ensures.nothing refl refl refl refl
     (zero_at c.in_ok-words.field-0.items (cells c.args.format) c.in_ok-words.ensures)
