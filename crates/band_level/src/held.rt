@@ -24,7 +24,7 @@ pub struct Held {
     // how many spectra were added up, and their sums
     count: usize,
     sums: Sums,
-    // the bytes behind them, of which so many are filled
+    // the bytes behind them, and how many of these are filled
     bytes: Vec<u8>,
     filled: usize,
     // working space: the sums of a spectrum
@@ -48,7 +48,7 @@ impl Model for Held {
 }
 
 impl Held {
-    /// Takes the memory for so many spectra.
+    /// Takes the memory for `spectra` averaged spectra.
     pub fn open(alloc: Global, format: Format, spectra: u32) -> Result<Held, Memory>
         requires format { FormatInRange format }
         requires few { spectra ≤ 1048576 }
@@ -66,7 +66,7 @@ impl Held {
         }
     }
 
-    // Takes the memory for so many bytes and sums.
+    // Takes the memory for `limit` bytes and `sums` sums.
     fn with_room(
         alloc: Global,
         format: Format,
@@ -105,7 +105,7 @@ impl Held {
         let _ = &self.format;
     }
 
-    /// Takes bytes until all spectra are there, and says how many it took.
+    /// Takes the front of `bytes`, up to the last spectrum that there is room for. Returns how many bytes it took.
     pub fn put(&mut self, bytes: &[u8]) -> usize
         ensures within { result ≤ length bytes.now }
         ensures puts { Puts self.old.format self.old self.new (take result bytes.now) }
@@ -122,7 +122,7 @@ impl Held {
         taken
     }
 
-    // Takes some bytes.
+    // Takes at least one byte, and returns how many it took.
     fn put_some(&mut self, bytes: &[u8]) -> usize
         requires some { 0 < length bytes.now }
         requires room { held_bytes self.old.format self.old < self.old.room }
@@ -158,7 +158,7 @@ impl Held {
         self.filled = 0;
     }
 
-    // Takes bytes as they are.
+    // Takes bytes as they are, and returns how many.
     fn fill(&mut self, bytes: &[u8]) -> usize
         requires some { 0 < length bytes.now }
         requires room { held_bytes self.old.format self.old < self.old.room }
@@ -183,7 +183,7 @@ impl Held {
         self.count * self.spectrum + self.filled
     }
 
-    /// Whether all spectra are there.
+    /// Whether all spectra that there is room for came.
     pub fn is_full(&self) -> bool
         ensures full { result ≡ true
             → held_bytes self.now.format self.now ≡ self.now.room }
@@ -193,7 +193,7 @@ impl Held {
         self.len() == self.room
     }
 
-    /// How many whole spectra are there.
+    /// How many whole spectra came.
     pub fn whole_spectra(&self) -> usize
         ensures count { result
             ≡ held_bytes self.now.format self.now / spectrum_bytes self.now.format }
@@ -202,7 +202,7 @@ impl Held {
         self.len() / self.spectrum
     }
 
-    /// Holds nothing any more.
+    /// Forgets all spectra.
     pub fn clear(&mut self)
         ensures { self.new ≡ cleared self.old }
     {
@@ -210,7 +210,7 @@ impl Held {
         self.filled = 0;
     }
 
-    /// Reads spectrum `t`.
+    /// Reads averaged spectrum `t` into `row`, a value of each cell.
     pub fn read(&self, row: &mut [u32], format: Format, t: usize)
         requires cells { length row.old ≡ cells format }
         requires held { HasSpectra format self.now (t + 1) }

@@ -6,7 +6,7 @@ use crate::space::{pairs, words};
 use psr_base::Memory;
 use std::alloc::Global;
 
-/// Values of 16 bits, or of 32: the others are none.
+/// Values of 32 bits if they are wide, or else of 16. The list of the other width is empty.
 #[derive(Drop)]
 pub struct Sums {
     is_wide: bool,
@@ -15,7 +15,7 @@ pub struct Sums {
 }
 
 impl Sums {
-    /// Takes the memory for so many values.
+    /// Takes the memory for `count` values.
     pub fn open(alloc: Global, is_wide: bool, count: usize) -> Result<Sums, Memory>
         ensures wide { IfOk result (λ s. s.is_wide ≡ is_wide) }
         ensures long { IfOk result (λ s. length (sums_of s) ≡ count) }
@@ -35,7 +35,7 @@ impl Sums {
         }
     }
 
-    /// Writes a row from a place on.
+    /// Writes `row` from place `at` on.
     pub fn write(&mut self, at: usize, row: &[u32])
         requires room { at + length row.now ≤ length (sums_of self.old) }
         requires small { self.old.is_wide ≡ false → (i : ℕ) → i < length row.now
@@ -50,7 +50,7 @@ impl Sums {
         }
     }
 
-    /// Reads a row from a place on.
+    /// Reads `row` from place `at` on.
     pub fn read(&self, at: usize, row: &mut [u32])
         requires inside { at + length row.old ≤ length (sums_of self.now) }
         ensures { (i : ℕ) → i < length row.old
@@ -64,7 +64,7 @@ impl Sums {
     }
 }
 
-// Writes a row in 16 bits.
+// Writes a row in 16 bits, from place `at` on.
 fn write_narrow(values: &mut [u16], at: usize, row: &[u32])
     requires room { at + length row.now ≤ length values.old }
     requires small { (i : ℕ) → i < length row.now → slice_index row.now i ≤ 65535 }
@@ -75,7 +75,7 @@ fn write_narrow(values: &mut [u16], at: usize, row: &[u32])
     }
 }
 
-// Writes a row in 32 bits.
+// Writes a row in 32 bits, from place `at` on.
 fn write_wide(values: &mut [u32], at: usize, row: &[u32])
     requires room { at + length row.now ≤ length values.old }
     ensures { WritesRow at row.now values.old values.new }
@@ -85,7 +85,7 @@ fn write_wide(values: &mut [u32], at: usize, row: &[u32])
     }
 }
 
-// Reads a row of 16 bits.
+// Reads a row of 16 bits, from place `at` on.
 fn read_narrow(values: &[u16], at: usize, row: &mut [u32])
     requires inside { at + length row.old ≤ length values.now }
     ensures { (i : ℕ) → i < length row.old
@@ -96,7 +96,7 @@ fn read_narrow(values: &[u16], at: usize, row: &mut [u32])
     }
 }
 
-// Reads a row of 32 bits.
+// Reads a row of 32 bits, from place `at` on.
 fn read_wide(values: &[u32], at: usize, row: &mut [u32])
     requires inside { at + length row.old ≤ length values.now }
     ensures { (i : ℕ) → i < length row.old
