@@ -181,7 +181,8 @@ module _ (s : RunSeen) (one : IsOfOne s) (told : Told) where
 
 -- ---- by the end of a run
 
-module _ {F : Type 0} (takes : Observation → HeaderText → Type 0) (refuses : Observation → HeaderText → F → Type 0)
+module _ {F : Type 0} (block : Observation → ℕ) (takes : Observation → HeaderText → Type 0)
+    (refuses : Observation → HeaderText → F → Type 0)
     (leaves : Observation → HeaderText → List ℕ → Ending F → SinkSeen → SinkSeen → Type 0)
     (apart : (o : Observation) (header : HeaderText) (refusal : F) → takes o header → refuses o header refusal → ⊥)
     (accepted : AcceptedIsNotRefused) (s : RunSeen) (one : IsOfOne s) (told : Told) (before after : SinkSeen)
@@ -220,7 +221,7 @@ module _ {F : Type 0} (takes : Observation → HeaderText → Type 0) (refuses :
       by (inl refused) = absurd (apart _ _ refused.0 taken refused.2)
       by (inr outside) = outside
 
-  pub header_answered : EndsStream takes refuses leaves s told before after stop → (files : List (List ℕ)) →
+  pub header_answered : EndsStream block takes refuses leaves s told before after stop → (files : List (List ℕ)) →
       AreToldAt (IsFirstFile s.starts (length s.names)) told s.names files → (file : ℕ) (cause : HeaderCause) →
       RefusesFirstHeader (stream_for s files) file cause →
       ((k : ℕ) × (other : HeaderCause) × (stop ≡ Some (Run (halts.Header k other)))) ⊎ IsFromOutside stop
@@ -247,7 +248,7 @@ module _ {F : Type 0} (takes : Observation → HeaderText → Type 0) (refuses :
       by (Run halts.SinkFault) is says = absurd says.0
       by (Run halts.FileFault) is says = absurd says.0
 
-  pub refusal_answered : EndsStream takes refuses leaves s told before after stop → (files : List (List ℕ)) →
+  pub refusal_answered : EndsStream block takes refuses leaves s told before after stop → (files : List (List ℕ)) →
       AreToldAt (IsFirstFile s.starts (length s.names)) told s.names files → AreWalked (stream_for s files) →
       (refusal : F) → OfHead (λ o header. refuses o header refusal) (stream_for s files) →
       ((other : F) × (stop ≡ Some (stops.Refused other))
@@ -258,7 +259,7 @@ module _ {F : Type 0} (takes : Observation → HeaderText → Type 0) (refuses :
   refusal_answered (inr (inr e)) files are walked refusal refused =
       absurd (apart _ _ refusal (e.left files are).1 refused)
 
-  pub goes_through : BytesAreJoined → WalkJoinsData → EndsStream takes refuses leaves s told before after stop →
+  pub goes_through : BytesAreJoined → WalkJoinsData → EndsStream block takes refuses leaves s told before after stop →
       (files : List (List ℕ)) → AreTold told s.names files → AreWalked (stream_for s files) →
       OfHead takes (stream_for s files) → walk_stop (stream_for s files) ≡ walk.Whole →
       (stop ≡ None) ⊎ (RefusesAtEnd leaves (stream_for s files) before after stop ⊎ IsFromOutside stop)
@@ -275,7 +276,7 @@ module _ {F : Type 0} (takes : Observation → HeaderText → Type 0) (refuses :
           (stop ≡ None) ⊎ (RefusesAtEnd leaves (stream_for s files) before after stop ⊎ IsFromOutside stop)
       by_end bytes is (inl none) = inl none
       by_end bytes is (inr refused) =
-          let end = whole_end join joins takes leaves s one told before after files are stop e bytes is in
+          let end = whole_end join joins block takes leaves s one told before after files are stop e bytes is in
           let left = e.left files (some_told (IsFirstFile s.starts (length s.names)) told s.names files are) in
           let w = stream_for s files in
           let P : List ℕ → Type 0 = λ xs. OfHead (λ o header. leaves o header xs e.ending before after) w in
@@ -290,7 +291,7 @@ module _ {F : Type 0} (takes : Observation → HeaderText → Type 0) (refuses :
           let Is : FeedEnd → Type 0 = λ end. IsStopOf end e.ending stop in
           by_end all.0 all.1 (whole_stops all.0 e.ending stop (subst Is all.1 e.is))
 
-  pub stop_answered : FirstStopCounts → EndsStream takes refuses leaves s told before after stop → (file : ℕ) →
+  pub stop_answered : FirstStopCounts → EndsStream block takes refuses leaves s told before after stop → (file : ℕ) →
       file < length s.names → (files : List (List ℕ)) → AreToldAt (λ k. k < file + 1) told s.names files →
       AreWalked (stream_for s files) → OfHead takes (stream_for s files) →
       ((k : ℕ) → k < file → stop_at (stream_for s files) k ≡ None) → (at : WalkStop) →

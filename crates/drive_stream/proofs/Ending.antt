@@ -52,7 +52,8 @@ ends_all (TooLong limit) (Refused refusal) stop is none = absurd is
 ends_all (TooLong limit) Early stop is none = absurd cc
 ends_all (TooLong limit) (Failed phase) stop is none = absurd is
 
-module _ (join : BytesAreJoined) (walked : WalkJoinsData) {F : Type 0} (takes : Observation → HeaderText → Type 0)
+module _ (join : BytesAreJoined) (walked : WalkJoinsData) {F : Type 0} (block : Observation → ℕ)
+    (takes : Observation → HeaderText → Type 0)
     (leaves : Observation → HeaderText → List ℕ → Ending F → SinkSeen → SinkSeen → Type 0) (s : RunSeen)
     (one : IsOfOne s) (told : Told) (before after : SinkSeen) where
   starts_are : s.starts ≡ 0 ∷ []
@@ -69,7 +70,7 @@ module _ (join : BytesAreJoined) (walked : WalkJoinsData) {F : Type 0} (takes : 
 
   -- what was handed out at the end of all data
   pub whole_end : (files : List (List ℕ)) → AreTold told s.names files → (stop : Option (StreamStop F))
-      (e : EndsFed takes leaves s told before after stop) (bytes : ℕ) → e.feed ≡ Whole bytes →
+      (e : EndsFed block takes leaves s told before after stop) (bytes : ℕ) → e.feed ≡ Whole bytes →
       (walk_stop (stream_for s files) ≡ walk.Whole)
       × (joined_bytes e.blocks ≡ transfer_data (stream_for s files) 0)
   whole_end files are stop e bytes is =
@@ -85,7 +86,7 @@ module _ (join : BytesAreJoined) (walked : WalkJoinsData) {F : Type 0} (takes : 
       )
 
   pub streams_to_end : (refuses : Observation → HeaderText → F → Type 0) →
-      EndsStream takes refuses leaves s told before after None → OfRun told s (λ w. (walk_stop w ≡ walk.Whole)
+      EndsStream block takes refuses leaves s told before after None → OfRun told s (λ w. (walk_stop w ≡ walk.Whole)
       × AreWalked w × OfHead takes w
       × OfHead (λ o header. leaves o header (transfer_data w 0) All before after) w)
   streams_to_end refuses (inl early) files are = absurd (never early.what early.is)

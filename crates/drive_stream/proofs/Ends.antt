@@ -1,6 +1,6 @@
 -- How a stream ended, over the files of the settings.
 use Rattle.std.proofs.Common.{◌≡◌, ◌≢◌, ℕ, ◌+◌, ◌<◌, List, [], ◌∷◌, Option, Some, None, length, inl, inr, refl, sym, ap, ◌∙◌, subst, arith}
-use Rattle.std.specs.Prelude.{◌⊎◌, slice_index_or, IsSome}
+use Rattle.std.specs.Prelude.{◌⊎◌, min, slice_index_or, IsSome}
 use mathlib.Core.List.{IsPrefix}
 use Rattle.psr_base.specs.Inputs.{HasReadFrom}
 use Rattle.psr_base.specs.Told.{Told}
@@ -37,7 +37,7 @@ use Rattle.drive_stream.specs.declared.stop.StreamStop.TheVariants as stops
 use Rattle.drive_stream.specs.Endings.{Ending, All, Early, Failed, Refused, Midway, AtEnd, AtStop}
 use Rattle.drive_stream.specs.Flows.{KeepsOn}
 use Rattle.drive_stream.specs.Opening.{IsOfOne, IsOpened}
-use Rattle.drive_stream.specs.Outcome.{BreaksData, OfHead, EndsFed, EndsBroken, EndsStream, ReadsRefused}
+use Rattle.drive_stream.specs.Outcome.{BeginsWith, BreaksData, OfHead, EndsFed, EndsBroken, EndsStream, ReadsRefused}
 use Rattle.drive_stream.specs.Stops.{IsStopOf}
 use Rattle.drive_stream.specs.Writings.{LeavesOf, WritesTo, BreaksWriting}
 use Rattle.drive_stream.proofs.Fronts.{bytes_front, front_follows, same_front, one_start, one_of, walk_front, walk_whole, broken_front}
@@ -193,10 +193,11 @@ module _ (join : BytesAreJoined) (walked : WalkJoinsData) (files : List (List �
 -- ---- a run
 
 module _ {I S F : Type 0} (told : I → Told) (is_open is_calm : I → Type 0) (faults : I → ℕ)
-    (takes : Observation → HeaderText → Type 0) (opens : Observation → HeaderText → S → Type 0)
+    (block : Observation → ℕ) (takes : Observation → HeaderText → Type 0)
+    (opens : Observation → HeaderText → S → Type 0)
     (leaves : Observation → HeaderText → List ℕ → Ending F → SinkSeen → SinkSeen → Type 0) (s : RunSeen)
     (one : IsOfOne s) (f j : Feeder I) (o : Observation) (stream : S)
-    (at : IsOpened told is_open takes opens s f o stream) (kept : KeepsOn told is_calm faults f j) where
+    (at : IsOpened told is_open block takes opens s f o stream) (kept : KeepsOn told is_calm faults f j) where
   pub now_plan : HasPlan j s.names s.starts at.size s.max_bytes
   now_plan = record {
     files = ap (λ (p : Plan). p.names) kept.plan ∙ at.plan.files;
@@ -285,13 +286,17 @@ module _ {I S F : Type 0} (told : I → Told) (is_open is_calm : I → Type 0) (
     pub still : (told j.inputs.now).bytes_under ≡ before.bytes_under
     still = kept.names ∙ same
 
+    first_head : OfRunFirsts before s (BeginsWith o at.header)
+    first_head files are =
+        at.firsts files
+        (still_told (IsFirstFile s.starts (length s.names)) before (told f.inputs.now) s.names files same are)
+
     left_by : (bytes : List ℕ) (ending : Ending F) (seen after : SinkSeen) →
         LeavesOf (opens o) (leaves o) stream bytes ending seen after → OfRunFirsts before s (λ w. AreWalked w
         × OfHead takes w × OfHead (λ p h. leaves p h bytes ending seen after) w)
     left_by bytes ending seen after left files are =
         let w = stream_for s files in
-        let is = at.firsts files
-        (still_told (IsFirstFile s.starts (length s.names)) before (told f.inputs.now) s.names files same are) in (
+        let is = first_head files are in (
           is.walked,
           of_head o at.header w is takes at.taken,
           of_head o at.header w is (λ p h. leaves p h bytes ending seen after) (left at.header at.opened),
@@ -299,7 +304,7 @@ module _ {I S F : Type 0} (told : I → Told) (is_open is_calm : I → Type 0) (
 
     pub ends_fed : (seen after : SinkSeen) (stop : Option (StreamStop F)) →
         WritesTo told is_calm faults (opens o) (leaves o) f j stream seen after stop →
-        EndsFed takes leaves s before seen after stop
+        EndsFed block takes leaves s before seen after stop
     ends_fed seen after stop w =
         let now = told j.inputs.now in
         let ended = (ended_as j.stream now w.hands.0 w.blocks w.end (has_end j) w.ended w.hands.1).ended in
@@ -311,6 +316,9 @@ module _ {I S F : Type 0} (told : I → Told) (is_open is_calm : I → Type 0) (
           is = w.is;
           size = at.size;
           some = at.fits.some;
+          within = at.fits.within;
+          cut = λ files are. let is = first_head files are in
+              subst (λ (p : Observation). at.size ≡ min (block p) s.size) (sym is.is) at.cut;
           blocks = w.blocks;
           at = place;
           last = λ bytes is. ended.last bytes is ∙ ap length now_plan.files;
@@ -456,23 +464,25 @@ module _ {I S F : Type 0} (told : I → Told) (is_open is_calm : I → Type 0) (
 -- ---- however it was written
 
 module _ {I S F : Type 0} {told : I → Told} {is_open is_calm : I → Type 0} {faults : I → ℕ}
-    {takes : Observation → HeaderText → Type 0} {opens : Observation → HeaderText → S → Type 0}
+    {block : Observation → ℕ} {takes : Observation → HeaderText → Type 0}
+    {opens : Observation → HeaderText → S → Type 0}
     (leaves : Observation → HeaderText → List ℕ → Ending F → SinkSeen → SinkSeen → Type 0) {s : RunSeen}
     (one : IsOfOne s) {f j : Feeder I} {o : Observation} {stream : S}
-    (at : IsOpened told is_open takes opens s f o stream) {seen after : SinkSeen} {stop : Option (StreamStop F)} where
+    (at : IsOpened told is_open block takes opens s f o stream) {seen after : SinkSeen}
+    {stop : Option (StreamStop F)} where
   pub all_reads : WritesTo told is_calm faults (opens o) (leaves o) f j stream seen after stop
       ⊎ BreaksWriting told is_calm faults (opens o) (leaves o) f j stream seen after stop →
       HasReadFrom told is_calm faults (stop ≡ Some (Run halts.ReadFault)) f.inputs.now j.inputs.now
   all_reads (inl w) =
-      fed_reads told is_open is_calm faults takes opens leaves s one f j o stream at w.kept seen after stop w
+      fed_reads told is_open is_calm faults block takes opens leaves s one f j o stream at w.kept seen after stop w
   all_reads (inr w) =
-      broken_reads told is_open is_calm faults takes opens leaves s one f j o stream at w.kept seen after stop w
+      broken_reads told is_open is_calm faults block takes opens leaves s one f j o stream at w.kept seen after stop w
 
   pub all_serves : WritesTo told is_calm faults (opens o) (leaves o) f j stream seen after stop
       ⊎ BreaksWriting told is_calm faults (opens o) (leaves o) f j stream seen after stop →
       is_calm f.inputs.now → HoldsAll (told f.inputs.now) s.names → stop ≡ Some (Run halts.ReadFault) → ⊥
   all_serves (inl w) calm holds failed =
-      serves told is_open is_calm faults takes opens leaves s one f j o stream at w.kept calm holds
+      serves told is_open is_calm faults block takes opens leaves s one f j o stream at w.kept calm holds
       (w.ended ∙ ap Some (failed_reading w.end w.ending stop w.is failed))
   all_serves (inr w) calm holds failed = absurd (other stop w.is failed)
     where
@@ -495,13 +505,13 @@ module _ {I S F : Type 0} {told : I → Told} {is_open is_calm : I → Type 0} {
       WritesTo told is_calm faults (opens o) (leaves o) f j stream seen after stop
       ⊎ BreaksWriting told is_calm faults (opens o) (leaves o) f j stream seen after stop →
       (before : Told) → (told f.inputs.now).bytes_under ≡ before.bytes_under →
-      EndsStream takes refuses leaves s before seen after stop
+      EndsStream block takes refuses leaves s before seen after stop
   all_ends begin join walked refuses (inl w) before same =
-      inr (inl (ends_fed told is_open is_calm faults takes opens leaves s one f j o stream at w.kept before same seen
-      after stop w))
+      inr (inl (ends_fed told is_open is_calm faults block takes opens leaves s one f j o stream at w.kept before same
+      seen after stop w))
   all_ends begin join walked refuses (inr w) before same =
-      inr (inr (ends_broken told is_open is_calm faults takes opens leaves s one f j o stream at w.kept before same
-      begin join walked seen after stop w))
+      inr (inr (ends_broken told is_open is_calm faults block takes opens leaves s one f j o stream at w.kept before
+      same begin join walked seen after stop w))
 
   pub all_breaks : FaultsLeave I →
       WritesTo told is_calm faults (opens o) (leaves o) f j stream seen after stop
@@ -509,8 +519,8 @@ module _ {I S F : Type 0} {told : I → Told} {is_open is_calm : I → Type 0} {
       stop ≡ Some (Run halts.ReadFault) → (before : Told) → (told f.inputs.now).bytes_under ≡ before.bytes_under →
       FeederRead before (told f.inputs.now) f → BreaksData s (is_calm f.inputs.now) before (told j.inputs.now)
   all_breaks leave (inl w) failed before same read =
-      breaks_data told is_open is_calm faults takes opens leaves s one f j o stream at w.kept before same leave read
-      w.blocks w.hands (w.ended ∙ ap Some (failed_reading w.end w.ending stop w.is failed))
+      breaks_data told is_open is_calm faults block takes opens leaves s one f j o stream at w.kept before same leave
+      read w.blocks w.hands (w.ended ∙ ap Some (failed_reading w.end w.ending stop w.is failed))
   all_breaks leave (inr w) failed before same read = absurd (other stop w.is failed)
     where
       other : (stop : Option (StreamStop F)) → stop ≡ Some (Run halts.SinkFault) →
@@ -523,8 +533,8 @@ module _ {I S F : Type 0} {told : I → Told} {is_open is_calm : I → Type 0} {
       ReadsRefused leaves s before (told j.inputs.now) seen after stop
   all_refused (inl w) before same refusal is files are =
       let bytes = joined_bytes w.blocks in
-      let left = left_by told is_open is_calm faults takes opens leaves s one f j o stream at w.kept before same bytes
-      w.ending seen after w.left files are in
+      let left = left_by told is_open is_calm faults block takes opens leaves s one f j o stream at w.kept before same
+      bytes w.ending seen after w.left files are in
       let Left : Ending F → Type 0 = λ ending.
       OfHead (λ p h. leaves p h bytes ending seen after) (stream_for s files) in
       inr (bytes, subst Left (refused_at_end w.end w.ending stop refusal w.is is) left.2)

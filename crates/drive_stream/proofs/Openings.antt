@@ -1,6 +1,6 @@
 -- What is opened of the first file, or why nothing is.
 use Rattle.std.proofs.Common.{◌≡◌, ℕ, ◌≤◌, true, List, [], ◌∷◌, Option, Some, Result, Ok, Err, length, map, refl, sym, ap, ◌∙◌, subst, arith}
-use Rattle.std.specs.Prelude.{IfErr, slice_get}
+use Rattle.std.specs.Prelude.{IfErr, min, slice_get}
 use Rattle.std.proofs.lemmas.List.{length-map}
 use Rattle.psr_base.specs.Told.{Told}
 use Rattle.dada_model.specs.Bounds.{ObservationInRange}
@@ -144,13 +144,15 @@ module _ {I : Type 0} (told : I → Told) (is_open : I → Type 0) (s : RunSeen)
     first = (is_head single, are_first);
   }
 
-  pub is_opened : {S : Type 0} (takes : Observation → HeaderText → Type 0)
+  pub is_opened : {S : Type 0} (block : Observation → ℕ) (takes : Observation → HeaderText → Type 0)
       (opens : Observation → HeaderText → S → Type 0) (size : ℕ) (new : Feeder I) (stream : S) → HasSize size s.size →
+      size ≡ min (block o) s.size →
       HasPlan new s.names s.starts size s.max_bytes → IsReady told f new → new.inputs.now ≡ f.inputs.now →
-      takes o h → opens o h stream → IsOpened told is_open takes opens s new o stream
-  is_opened takes opens size new stream fits plan ready same taken opened = record {
+      takes o h → opens o h stream → IsOpened told is_open block takes opens s new o stream
+  is_opened block takes opens size new stream fits cut plan ready same taken opened = record {
     size = size;
     fits = fits;
+    cut = cut;
     plan = plan;
     running = ready.running;
     faultless = ready.faultless;

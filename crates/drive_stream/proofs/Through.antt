@@ -18,20 +18,22 @@ use Rattle.drive_stream.specs.Endings.{Ending}
 use Rattle.drive_stream.specs.Opening.{LeavesBefore}
 use Rattle.drive_stream.specs.Outcome.{BreaksData, EndsStream, LeavesInputs, ReadsHead, ReadsRefused, SaysBefore}
 
-module _ {F : Type 0} (takes : Observation → HeaderText → Type 0) (refuses : Observation → HeaderText → F → Type 0)
+module _ {F : Type 0} (block : Observation → ℕ) (takes : Observation → HeaderText → Type 0)
+    (refuses : Observation → HeaderText → F → Type 0)
     (leaves : Observation → HeaderText → List ℕ → Ending F → SinkSeen → SinkSeen → Type 0) (s : RunSeen) where
   -- there was no memory for the feeder
   pub no_memory_ends : (told : Told) (seen : SinkSeen) →
-      EndsStream takes refuses leaves s told seen seen (Some (Run halts.Memory))
+      EndsStream block takes refuses leaves s told seen seen (Some (Run halts.Memory))
   no_memory_ends told seen =
       inl (record { what = Run halts.Memory; is = refl; says = (tt, tt); untouched = refl })
 
-pub stopped_ends : {I F : Type 0} (told : I → Told) (takes : Observation → HeaderText → Type 0)
+pub stopped_ends : {I F : Type 0} (told : I → Told) (block : Observation → ℕ)
+    (takes : Observation → HeaderText → Type 0)
     (refuses : Observation → HeaderText → F → Type 0)
     (leaves : Observation → HeaderText → List ℕ → Ending F → SinkSeen → SinkSeen → Type 0) (s : RunSeen) (old start : I)
     (seen : SinkSeen) (stop : StreamStop F) → start ≡ old → SaysBefore refuses s (told start) stop →
-    EndsStream takes refuses leaves s (told old) seen seen (Some stop)
-stopped_ends told takes refuses leaves s old start seen stop same says =
+    EndsStream block takes refuses leaves s (told old) seen seen (Some stop)
+stopped_ends told block takes refuses leaves s old start seen stop same says =
     inl (record {
       what = stop;
       is = refl;

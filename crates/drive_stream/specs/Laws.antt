@@ -22,11 +22,11 @@ use Rattle.drive_stream.specs.Stops.{as_run}
 
 -- A run that came to no stop took all data: where all files are told, no file stops their walk, the first header is
 -- accepted, the program takes it, and leaves what it leaves of all data.
-abbrev pub StreamsEnd : {F : Type 0} → (Observation → HeaderText → Type 0) →
-    (Observation → HeaderText → F → Type 0) →
+abbrev pub StreamsEnd : {F : Type 0} → (Observation → ℕ) →
+    (Observation → HeaderText → Type 0) → (Observation → HeaderText → F → Type 0) →
     (Observation → HeaderText → List ℕ → Ending F → SinkSeen → SinkSeen → Type 0) → Type 0
-StreamsEnd takes refuses leaves = (s : RunSeen) (told : Told) (before after : SinkSeen) →
-    IsOfOne s → EndsStream takes refuses leaves s told before after None → OfRun told s (λ w.
+StreamsEnd block takes refuses leaves = (s : RunSeen) (told : Told) (before after : SinkSeen) →
+    IsOfOne s → EndsStream block takes refuses leaves s told before after None → OfRun told s (λ w.
     (walk_stop w ≡ Whole) × AreWalked w × OfHead takes w
     × OfHead (λ o header. leaves o header (transfer_data w 0) All before after) w)
 
@@ -44,46 +44,50 @@ RefusesAtEnd {F} leaves w before after stop = (refusal : F) × (stop ≡ Some (s
     × OfHead (λ o header. leaves o header (transfer_data w 0) (Refused refusal) before after) w
 
 -- Q holds of each run of which this is known: how it ends
-abbrev pub ForEnds : {F : Type 0} → (Observation → HeaderText → Type 0) →
-    (Observation → HeaderText → F → Type 0) →
+abbrev pub ForEnds : {F : Type 0} → (Observation → ℕ) →
+    (Observation → HeaderText → Type 0) → (Observation → HeaderText → F → Type 0) →
     (Observation → HeaderText → List ℕ → Ending F → SinkSeen → SinkSeen → Type 0) →
     (RunSeen → Told → SinkSeen → SinkSeen → Option (StreamStop F) → Type 0) → Type 0
-ForEnds {F} takes refuses leaves Q = (s : RunSeen) (told : Told) (before after : SinkSeen)
+ForEnds {F} block takes refuses leaves Q = (s : RunSeen) (told : Told) (before after : SinkSeen)
     (stop : Option (StreamStop F)) → IsOfOne s →
-    EndsStream takes refuses leaves s told before after stop → Q s told before after stop
+    EndsStream block takes refuses leaves s told before after stop → Q s told before after stop
 
 -- a header and data that are accepted and taken: the run goes through, unless the program refuses them at their end
-abbrev pub AcceptedGoesThrough : {F : Type 0} → (Observation → HeaderText → Type 0) →
-    (Observation → HeaderText → F → Type 0) →
+abbrev pub AcceptedGoesThrough : {F : Type 0} → (Observation → ℕ) →
+    (Observation → HeaderText → Type 0) → (Observation → HeaderText → F → Type 0) →
     (Observation → HeaderText → List ℕ → Ending F → SinkSeen → SinkSeen → Type 0) → Type 0
-AcceptedGoesThrough takes refuses leaves = ForEnds takes refuses leaves (λ s told before after stop.
+AcceptedGoesThrough block takes refuses leaves =
+    ForEnds block takes refuses leaves (λ s told before after stop.
     OfRun told s (λ w. AreWalked w → OfHead takes w → walk_stop w ≡ Whole →
     (stop ≡ None) ⊎ (RefusesAtEnd leaves w before after stop ⊎ IsFromOutside stop)))
 
 -- a first header that is refused: the run ends at a refused header
-abbrev pub HeadersAreAnswered : {F : Type 0} → (Observation → HeaderText → Type 0) →
-    (Observation → HeaderText → F → Type 0) →
+abbrev pub HeadersAreAnswered : {F : Type 0} → (Observation → ℕ) →
+    (Observation → HeaderText → Type 0) → (Observation → HeaderText → F → Type 0) →
     (Observation → HeaderText → List ℕ → Ending F → SinkSeen → SinkSeen → Type 0) → Type 0
-HeadersAreAnswered takes refuses leaves = ForEnds takes refuses leaves (λ s told before after stop.
+HeadersAreAnswered block takes refuses leaves =
+    ForEnds block takes refuses leaves (λ s told before after stop.
     OfRunFirsts told s (λ w. (file : ℕ) (cause : HeaderCause) → RefusesFirstHeader w file cause →
     ((k : ℕ) × (other : HeaderCause) × (stop ≡ Some (Run (Header k other))))
     ⊎ IsFromOutside stop))
 
 -- a first header that is accepted, and refused by the program: the run ends at such a refusal
-abbrev pub RefusalsAreAnswered : {F : Type 0} → (Observation → HeaderText → Type 0) →
-    (Observation → HeaderText → F → Type 0) →
+abbrev pub RefusalsAreAnswered : {F : Type 0} → (Observation → ℕ) →
+    (Observation → HeaderText → Type 0) → (Observation → HeaderText → F → Type 0) →
     (Observation → HeaderText → List ℕ → Ending F → SinkSeen → SinkSeen → Type 0) → Type 0
-RefusalsAreAnswered {F} takes refuses leaves =
-    ForEnds takes refuses leaves (λ s told before after stop. OfRunFirsts told s (λ w. AreWalked w →
-    (refusal : F) → OfHead (λ o header. refuses o header refusal) w →
+RefusalsAreAnswered {F} block takes refuses leaves =
+    ForEnds block takes refuses leaves (λ s told before after stop.
+    OfRunFirsts told s (λ w. AreWalked w → (refusal : F) →
+    OfHead (λ o header. refuses o header refusal) w →
     ((other : F) × (stop ≡ Some (stops.Refused other))
     × OfHead (λ o header. refuses o header other) w) ⊎ IsFromOutside stop))
 
 -- a file stops the walk, and none before it does, whatever is told of later ones: the run ends at that stop
-abbrev pub StopsAreAnswered : {F : Type 0} → (Observation → HeaderText → Type 0) →
-    (Observation → HeaderText → F → Type 0) →
+abbrev pub StopsAreAnswered : {F : Type 0} → (Observation → ℕ) →
+    (Observation → HeaderText → Type 0) → (Observation → HeaderText → F → Type 0) →
     (Observation → HeaderText → List ℕ → Ending F → SinkSeen → SinkSeen → Type 0) → Type 0
-StopsAreAnswered takes refuses leaves = ForEnds takes refuses leaves (λ s told before after stop.
+StopsAreAnswered block takes refuses leaves =
+    ForEnds block takes refuses leaves (λ s told before after stop.
     (file : ℕ) → file < length s.names → OfRunTo (file + 1) told s (λ w. AreWalked w →
     OfHead takes w → ((k : ℕ) → k < file → stop_at w k ≡ None) → (at : WalkStop) →
     stop_at w file ≡ Some at →

@@ -1,6 +1,6 @@
 -- A stream that is opened, before its first data byte is read.
 -- Source: this project's choice.
-use Rattle.std.specs.Prelude.{◌≡◌, ℕ, ◌<◌, ◌≤◌, None, [], length}
+use Rattle.std.specs.Prelude.{◌≡◌, ℕ, ◌<◌, ◌≤◌, min, None, [], length}
 use Rattle.psr_base.specs.Told.{Told}
 use Rattle.dada_model.specs.Fields.{HeaderText}
 use Rattle.dada_model.specs.Observation.{Observation}
@@ -46,12 +46,15 @@ pub record IsReady {I : Type 0} (told : I → Told) (old new : Feeder I) : Type 
   pub reads_on : (before now : Told) → FeederRead before now old → FeederRead before now new
 
 -- A feeder reads the files of settings and stands before the first data byte, and a stream of the observation of the
--- first header was opened. In this: what inputs tell, and whether a name is open.
+-- first header was opened. Its blocks have the size that the program says of the observation, or the most that the
+-- settings allow, if that is less. In this: what inputs tell, and whether a name is open.
 pub record IsOpened {I S : Type 0} (told : I → Told) (is_open : I → Type 0)
-    (takes : Observation → HeaderText → Type 0) (opens : Observation → HeaderText → S → Type 0)
+    (block : Observation → ℕ) (takes : Observation → HeaderText → Type 0)
+    (opens : Observation → HeaderText → S → Type 0)
     (s : RunSeen) (f : Feeder I) (o : Observation) (stream : S) : Type 0 where
   pub size : ℕ
   pub fits : HasSize size s.size
+  pub cut : size ≡ min (block o) s.size
   pub plan : HasPlan f s.names s.starts size s.max_bytes
   pub running : has_end f ≡ None
   pub faultless : FeederFaultless f
@@ -64,7 +67,8 @@ pub record IsOpened {I S : Type 0} (told : I → Told) (is_open : I → Type 0)
 
 -- and it has read the first header since, and nothing else
 pub record IsOpenedSince {I S : Type 0} (told : I → Told) (is_open : I → Type 0)
-    (takes : Observation → HeaderText → Type 0) (opens : Observation → HeaderText → S → Type 0)
+    (block : Observation → ℕ) (takes : Observation → HeaderText → Type 0)
+    (opens : Observation → HeaderText → S → Type 0)
     (s : RunSeen) (before : Told) (f : Feeder I) (o : Observation) (stream : S) : Type 0 where
-  pub opened : IsOpened told is_open takes opens s f o stream
+  pub opened : IsOpened told is_open block takes opens s f o stream
   pub reads : FeederRead before (told f.inputs.now) f

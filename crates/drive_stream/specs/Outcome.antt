@@ -1,8 +1,9 @@
--- How a run ends that streams the data of one transfer through to its output. In the records `takes` is whether the
--- program takes an observation with a header, `refuses` why it doesn't, and `leaves` what is left of data bytes that
--- were handed to it, by the ending, from the output before to that after.
+-- How a run ends that streams the data of one transfer through to its output. In the records `block` is how many bytes
+-- the program lets a block have of an observation, `takes` whether it takes an observation with a header, `refuses` why
+-- it doesn't, and `leaves` what is left of data bytes that were handed to it, by the ending, from the output before to
+-- that after.
 -- Source: this project's choice.
-use Rattle.std.specs.Prelude.{◌≡◌, ◌≢◌, ℕ, ◌+◌, ◌<◌, ◌⊎◌, false, List, length, Option, Some, IsSome}
+use Rattle.std.specs.Prelude.{◌≡◌, ◌≢◌, ℕ, ◌+◌, ◌<◌, ◌≤◌, min, ◌⊎◌, false, List, length, Option, Some, IsSome}
 use mathlib.Core.List.{IsPrefix}
 use Rattle.dada_model.specs.Bounds.{ObservationInRange}
 use Rattle.dada_model.specs.Fields.{HeaderText, header_of}
@@ -88,9 +89,11 @@ pub record EndsEarly {F : Type 0} (refuses : Observation → HeaderText → F �
 
 -- The data ended so at a place, and no file before it stops the walk. Where all data were handed out it is past all
 -- files; else its file is there, and the only one that the end names. By the files up to it the blocks that were handed
--- out, of some size, are those of the walk to its end, and the walk stops there, if it does. By the first file the
+-- out are those of the walk to its end, and the walk stops there, if it does. They have the size that the program says
+-- of the observation of the first file, or the most that the settings allow, if that is less. By the first file the
 -- header is accepted, and the program takes it, and leaves of their bytes what it leaves.
-pub record EndsFed {F : Type 0} (takes : Observation → HeaderText → Type 0)
+pub record EndsFed {F : Type 0} (block : Observation → ℕ)
+    (takes : Observation → HeaderText → Type 0)
     (leaves : Observation → HeaderText → List ℕ → Ending F → SinkSeen → SinkSeen → Type 0)
     (s : RunSeen) (told : Told) (before after : SinkSeen) (stop : Option (StreamStop F)) :
     Type 0 where
@@ -99,6 +102,8 @@ pub record EndsFed {F : Type 0} (takes : Observation → HeaderText → Type 0)
   pub is : IsStopOf feed ending stop
   pub size : ℕ
   pub some : 0 < size
+  pub within : size ≤ s.size
+  pub cut : OfRunFirsts told s (λ w. size ≡ min (block (first_observation w 0)) s.size)
   pub blocks : List Entry
   pub at : Place
   pub last : (bytes : ℕ) → feed ≡ Whole bytes → at.file ≡ length s.names
@@ -126,13 +131,13 @@ pub record EndsBroken {F : Type 0} (takes : Observation → HeaderText → Type 
       × OfHead (λ o header. leaves o header bytes (Failed phase) before after) w)
 
 -- how a run of these settings ends
-abbrev pub EndsStream : {F : Type 0} → (Observation → HeaderText → Type 0) →
-    (Observation → HeaderText → F → Type 0) →
+abbrev pub EndsStream : {F : Type 0} → (Observation → ℕ) →
+    (Observation → HeaderText → Type 0) → (Observation → HeaderText → F → Type 0) →
     (Observation → HeaderText → List ℕ → Ending F → SinkSeen → SinkSeen → Type 0) → RunSeen →
     Told → SinkSeen → SinkSeen → Option (StreamStop F) → Type 0
-EndsStream takes refuses leaves s told before after stop =
+EndsStream block takes refuses leaves s told before after stop =
     EndsEarly refuses s told before after stop
-    ⊎ (EndsFed takes leaves s told before after stop
+    ⊎ (EndsFed block takes leaves s told before after stop
     ⊎ EndsBroken takes leaves s told before after stop)
 
 -- ---- what was read

@@ -1,5 +1,5 @@
 //! What comes before the data.
-ghost use Rattle.std.specs.Prelude.{◌≡◌, ◌≢◌, ◌≤◌, ℕ, List, [], ◌∷◌, length, Some, Err, IfOk, IfErr, OnOk};
+ghost use Rattle.std.specs.Prelude.{◌≡◌, ◌≢◌, ◌≤◌, ℕ, min, List, [], ◌∷◌, length, Some, Err, IfOk, IfErr, OnOk};
 ghost use Rattle.psr_base.specs.Inputs.{HasReadFrom};
 ghost use Rattle.psr_base.specs.Told.{Told};
 ghost use Rattle.dada_model.specs.Bounds.{ObservationInRange};
@@ -87,7 +87,9 @@ fn open_first<T: Streaming>(
 fn size_for<T: Streaming>(task: &T, observations: &[Option<Observation>], most: u32) -> u32
     requires one { (o : Described) × (observations.now ≡ Some o ∷ []) }
     requires most { 1 ≤ most }
-    ensures { HasSize result most }
+    ensures fits { HasSize result most }
+    ensures cut { (o : Described) → observations.now ≡ Some o ∷ []
+        → result ≡ min (T.block task.now o) most }
 {
     let Some(observation) = &observations[0] else {
         unreachable!()
@@ -138,8 +140,8 @@ fn open_begun<'a, I: Inputs, T: Streaming>(
     ensures same_reference { feeder.new.inputs.ghost_name ≡ feeder.old.inputs.ghost_name }
     ensures inputs { feeder.new.inputs.now ≡ feeder.old.inputs.now }
     ensures opened { IfOk result (λ stream. (o : Described) → observations.now ≡ Some o ∷ []
-        → IsOpened I.told I.is_open (T.takes task.now) (T.opens task.now) (run_seen run.now)
-        feeder.new o stream) }
+        → IsOpened I.told I.is_open (T.block task.now) (T.takes task.now) (T.opens task.now)
+        (run_seen run.now) feeder.new o stream) }
     ensures stopped { IfErr result (SaysBefore (T.refuses task.now) (run_seen run.now)
         (I.told feeder.old.inputs.now)) }
     ensures memory { (stop : Stopped) → result ≡ Err (StreamStop.Run stop) → stop ≡ Memory }
@@ -169,8 +171,9 @@ fn open_given<'a, I: Inputs, T: Streaming>(
         observations.items }
     ensures same_reference { feeder.new.inputs.ghost_name ≡ feeder.old.inputs.ghost_name }
     ensures inputs { feeder.new.inputs.now ≡ feeder.old.inputs.now }
-    ensures opened { IfOk result (λ r. IsOpened I.told I.is_open (T.takes task.now)
-        (T.opens task.now) (run_seen run.now) feeder.new r.observation r.stream) }
+    ensures opened { IfOk result (λ r. IsOpened I.told I.is_open (T.block task.now)
+        (T.takes task.now) (T.opens task.now) (run_seen run.now) feeder.new r.observation
+        r.stream) }
     ensures stopped { IfErr result (SaysBefore (T.refuses task.now) (run_seen run.now)
         (I.told feeder.old.inputs.now)) }
     ensures memory { (stop : Stopped) → result ≡ Err (StreamStop.Run stop) → stop ≡ Memory }
@@ -205,9 +208,9 @@ pub(crate) fn open<'a, I: Inputs, T: Streaming>(
     ensures serves { I.is_calm feeder.old.inputs.now
         → HoldsAll (I.told feeder.old.inputs.now) (run_seen run.now).names
         → result ≢ Err (StreamStop.Run Stop.ReadFault) }
-    ensures opened { IfOk result (λ r. IsOpenedSince I.told I.is_open (T.takes task.now)
-        (T.opens task.now) (run_seen run.now) (I.told feeder.old.inputs.now) feeder.new
-        r.observation r.stream) }
+    ensures opened { IfOk result (λ r. IsOpenedSince I.told I.is_open (T.block task.now)
+        (T.takes task.now) (T.opens task.now) (run_seen run.now) (I.told feeder.old.inputs.now)
+        feeder.new r.observation r.stream) }
     ensures stopped { IfErr result (SaysBefore (T.refuses task.now) (run_seen run.now)
         (I.told feeder.old.inputs.now)) }
     ensures leaves { IfErr result (LeavesBefore (run_seen run.now)

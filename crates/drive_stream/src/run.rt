@@ -33,8 +33,8 @@ fn stream_all<'a, R: Wait, I: Inputs, K: Sink, T: Streaming>(
     out: &mut K,
 ) -> Option<StreamStop<T::Refusal>>
     requires run { IsOfOne (run_seen run.now) }
-    requires opened { IsOpened I.told I.is_open (T.takes task.now) (T.opens task.now)
-        (run_seen run.now) feeder.old opened.observation opened.stream }
+    requires opened { IsOpened I.told I.is_open (T.block task.now) (T.takes task.now)
+        (T.opens task.now) (run_seen run.now) feeder.old opened.observation opened.stream }
     ensures same_reference { feeder.new.inputs.ghost_name ≡ feeder.old.inputs.ghost_name }
     ensures inputs { HasReadFrom I.told I.is_calm I.faults
         (result ≡ Some (StreamStop.Run Stop.ReadFault)) feeder.old.inputs.now
@@ -45,8 +45,8 @@ fn stream_all<'a, R: Wait, I: Inputs, K: Sink, T: Streaming>(
     ensures memory { result ≢ Some (StreamStop.Run Stop.Memory) }
     ensures ends { (before : Told)
         → (I.told feeder.old.inputs.now).bytes_under ≡ before.bytes_under
-        → EndsStream (T.takes task.now) (T.refuses task.now) (T.leaves task.now)
-        (run_seen run.now) before (K.seen out.old) (K.seen out.new) result }
+        → EndsStream (T.block task.now) (T.takes task.now) (T.refuses task.now)
+        (T.leaves task.now) (run_seen run.now) before (K.seen out.old) (K.seen out.new) result }
     ensures broken { result ≡ Some (StreamStop.Run Stop.ReadFault) → (before : Told)
         → (I.told feeder.old.inputs.now).bytes_under ≡ before.bytes_under
         → FeederRead before (I.told feeder.old.inputs.now) feeder.old
@@ -85,8 +85,9 @@ fn within<'a, R: Wait, I: Inputs, K: Sink, T: Streaming>(
     ensures serves { I.is_calm inputs.old
         → HoldsAll (I.told inputs.old) (run_seen run.now).names
         → result.done ≢ Some (StreamStop.Run Stop.ReadFault) }
-    ensures ends { EndsStream (T.takes task.now) (T.refuses task.now) (T.leaves task.now)
-        (run_seen run.now) (I.told inputs.old) (K.seen out.old) (K.seen out.new) result.done }
+    ensures ends { EndsStream (T.block task.now) (T.takes task.now) (T.refuses task.now)
+        (T.leaves task.now) (run_seen run.now) (I.told inputs.old) (K.seen out.old)
+        (K.seen out.new) result.done }
     ensures leaves { LeavesInputs (run_seen run.now) (I.is_calm inputs.old) (I.told inputs.old)
         (I.told result.inputs.now) result.done }
     ensures refused { ReadsRefused (T.leaves task.now) (run_seen run.now) (I.told inputs.old)
@@ -141,8 +142,9 @@ pub fn drive_stream<R: Wait, I: Inputs, K: Sink, T: Streaming>(
     ensures serves { I.is_calm inputs.old
         → HoldsAll (I.told inputs.old) (run_seen run.now).names
         → result ≢ Some (StreamStop.Run Stop.ReadFault) }
-    ensures ends { EndsStream (T.takes task.now) (T.refuses task.now) (T.leaves task.now)
-        (run_seen run.now) (I.told inputs.old) (K.seen out.old) (K.seen out.new) result }
+    ensures ends { EndsStream (T.block task.now) (T.takes task.now) (T.refuses task.now)
+        (T.leaves task.now) (run_seen run.now) (I.told inputs.old) (K.seen out.old)
+        (K.seen out.new) result }
     ensures leaves { LeavesInputs (run_seen run.now) (I.is_calm inputs.old) (I.told inputs.old)
         (I.told inputs.new) result }
     ensures refused { ReadsRefused (T.leaves task.now) (run_seen run.now) (I.told inputs.old)

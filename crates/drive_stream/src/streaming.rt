@@ -1,5 +1,5 @@
 //! What a program makes of the data that go through it.
-ghost use Rattle.std.specs.Prelude.{◌≤◌, ℕ, List, length, take, IfOk, IfErr, OnOk, OnErr};
+ghost use Rattle.std.specs.Prelude.{◌≡◌, ◌≤◌, ℕ, List, length, take, IfOk, IfErr, OnOk, OnErr};
 ghost use Rattle.dada_model.specs.Fields.{HeaderText};
 ghost use Rattle.dada_model.specs.Observation.{Observation as Described};
 ghost use Rattle.psr_base.specs.Written.{SinkSeen};
@@ -22,6 +22,9 @@ pub trait Streaming {
 
     /// Its own settings lie in their ranges.
     ghost holds: { Self → Type 0 };
+
+    /// How many bytes it lets a block have of the data of an observation.
+    ghost block: { Self → Described → ℕ };
 
     /// It takes an observation with this header.
     ghost takes: { Self → Described → HeaderText → Type 0 };
@@ -47,7 +50,8 @@ pub trait Streaming {
 
     /// How many bytes a block of the data has at most.
     fn block_size(&self, observation: &Observation) -> u32
-        ensures least { 1 ≤ result };
+        ensures least { 1 ≤ result }
+        ensures size { result ≡ block self.now observation.now };
 
     /// Takes all memory for an observation, whose first header is accepted.
     fn open(

@@ -23,7 +23,7 @@ use Rattle.drive_stream.specs.declared.stop.StreamStop.TheVariants as stream
 use Rattle.psr_level.specs.declared.refusal.LevelRefusal.{LevelRefusal}
 use Rattle.psr_level.specs.declared.refusal.LevelRefusal.TheVariants.{LongTime, BadMask, NoRoom}
 use Rattle.psr_level.specs.Complete.{IsComplete, IsOutside}
-use Rattle.psr_level.specs.Levels.{CanLevel, Leaves, Refuses}
+use Rattle.psr_level.specs.Levels.{CanLevel, Leaves, Refuses, level_block}
 use Rattle.psr_level.specs.Notes.{end_status, stop_of_stream, stop_of_words}
 use Rattle.psr_level.specs.Outcome.{EndsLevel}
 
@@ -42,10 +42,10 @@ refused o LongTime is = inl (ap stream_status is)
 refused o (BadMask fault) is = inr (inl (ap stream_status is))
 refused o (NoRoom need size) is = inl (ap stream_status is)
 
-module _ (s : LevelSeen) (goes : AcceptedGoesThrough (CanLevel s) (Refuses s) (Leaves s))
-    (headed : HeadersAreAnswered (CanLevel s) (Refuses s) (Leaves s))
-    (refuses : RefusalsAreAnswered (CanLevel s) (Refuses s) (Leaves s))
-    (stops : StopsAreAnswered (CanLevel s) (Refuses s) (Leaves s)) (range : RunInRange s.run)
+module _ (s : LevelSeen) (goes : AcceptedGoesThrough level_block (CanLevel s) (Refuses s) (Leaves s))
+    (headed : HeadersAreAnswered level_block (CanLevel s) (Refuses s) (Leaves s))
+    (refuses : RefusalsAreAnswered level_block (CanLevel s) (Refuses s) (Leaves s))
+    (stops : StopsAreAnswered level_block (CanLevel s) (Refuses s) (Leaves s)) (range : RunInRange s.run)
     (one : s.run.starts ≡ 0 ∷ []) (told : Told) (before after : SinkSeen) (o : Option (StreamStop LevelRefusal))
     (ends : EndsLevel s told before after o) where
   of_one : IsOfOne s.run

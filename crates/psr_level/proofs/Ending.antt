@@ -18,7 +18,7 @@ use Rattle.psr_level.specs.declared.stop.LevelStop.{LevelStop}
 use Rattle.psr_level.specs.declared.stop.LevelStop.TheVariants.{Run}
 use Rattle.psr_level.specs.Complete.{IsComplete}
 use Rattle.psr_level.specs.Files.{ForLevel, level_file}
-use Rattle.psr_level.specs.Levels.{CanLevel, Leaves, Refuses}
+use Rattle.psr_level.specs.Levels.{CanLevel, Leaves, Refuses, level_block}
 use Rattle.psr_level.specs.Notes.{stop_of_stream}
 use Rattle.psr_level.specs.Outcome.{EndsLevel, EndsSettings}
 
@@ -64,7 +64,7 @@ pub says_once : (words : List (List ℕ)) (s t : LevelSeen) → SayLevel words s
 says_once words s t one other = other.values ∙ sym one.values
 
 -- a levelling that came to no stop has written the levelled file
-pub whole_written : (s : LevelSeen) → StreamsEnd (CanLevel s) (Refuses s) (Leaves s) → RunInRange s.run →
+pub whole_written : (s : LevelSeen) → StreamsEnd level_block (CanLevel s) (Refuses s) (Leaves s) → RunInRange s.run →
     s.run.starts ≡ 0 ∷ [] → (told : Told) (before after : SinkSeen) (o : Option (StreamStop LevelRefusal)) →
     EndsLevel s told before after o → o ≡ None →
     OfRun told s.run (λ w. WroteAll (level_file s w) before after)

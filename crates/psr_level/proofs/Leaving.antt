@@ -23,7 +23,7 @@ use Rattle.drive_stream.specs.declared.stop.StreamStop.{StreamStop}
 use Rattle.drive_stream.specs.declared.stop.StreamStop.TheVariants as stream
 use Rattle.psr_level.specs.declared.refusal.LevelRefusal.{LevelRefusal}
 use Rattle.psr_level.specs.declared.refusal.LevelRefusal.TheVariants.{LongTime, BadMask, NoRoom}
-use Rattle.psr_level.specs.Levels.{CanLevel, Leaves, Refuses}
+use Rattle.psr_level.specs.Levels.{CanLevel, Leaves, Refuses, level_block}
 use Rattle.psr_level.specs.Notes.{end_status, stop_of_words}
 use Rattle.psr_level.specs.Outcome.{EndsLevel, LeavesFiles, ReadsRefused}
 use Rattle.psr_level.proofs.Completing.{stream_status}
@@ -75,7 +75,8 @@ not_three o (inr (inr out)) is =
     let status : stream_status o ≡ 10 = ap stream_status out in absurd (omega (arith, is, status))
 
 -- a refusal comes before the data
-pub reads_refused : (s : LevelSeen) → RefusalsAreAnswered (CanLevel s) (Refuses s) (Leaves s) → RunInRange s.run →
+pub reads_refused : (s : LevelSeen) → RefusalsAreAnswered level_block (CanLevel s) (Refuses s) (Leaves s) →
+    RunInRange s.run →
     s.run.starts ≡ 0 ∷ [] → (before after : Told) (out_before out_after : SinkSeen)
     (o : Option (StreamStop LevelRefusal)) → EndsLevel s before out_before out_after o →
     streamed.ReadsRefused (Leaves s) s.run before after out_before out_after o → ReadsRefused s before after o

@@ -33,6 +33,10 @@ Refuses s o header LongTime = ¬ FitsTime s.options o
 Refuses s o header (BadMask fault) = ExplainsMask o s.mask fault × (fault ≢ Memory)
 Refuses s o header (NoRoom need size) = HasNoRoom s.options o header need size
 
+-- how many bytes a block of the data of an observation has
+abbrev pub level_block : Observation → ℕ
+level_block o = 65536
+
 -- what is levelled, and the header of the levelled file
 abbrev pub task_in : LevelSeen → Observation → Task
 task_in s o = task_of s.options s.mask o

@@ -17,14 +17,14 @@ use Rattle.drive_stream.specs.Outcome.{BreaksData, EndsStream, OfHead, ReadsHead
 use Rattle.psr_level.specs.declared.refusal.LevelRefusal.{LevelRefusal}
 use Rattle.psr_level.specs.declared.stop.LevelStop.{LevelStop}
 use Rattle.psr_level.specs.declared.stop.LevelStop.TheVariants.{Run}
-use Rattle.psr_level.specs.Levels.{CanLevel, Leaves, Refuses}
+use Rattle.psr_level.specs.Levels.{CanLevel, Leaves, Refuses, level_block}
 use Rattle.psr_level.specs.Notes.{end_status, level_note, stop_of_stream, stop_of_words}
 
 -- how the stream of a levelling of these settings ends
 abbrev pub EndsLevel : LevelSeen → Told → SinkSeen → SinkSeen →
     Option (StreamStop LevelRefusal) → Type 0
 EndsLevel s told before after stop =
-    EndsStream (CanLevel s) (Refuses s) (Leaves s) s.run told before after stop
+    EndsStream level_block (CanLevel s) (Refuses s) (Leaves s) s.run told before after stop
 
 -- its words say no settings, or there was no memory
 pub record EndsAtWords (words : List (List ℕ)) (inputs : InputsSeen) (before after : SinkSeen)

@@ -6,7 +6,7 @@ ghost use Rattle.level_plan.specs.Headers.{HasRoom, level_header as level_header
 ghost use Rattle.level_plan.specs.Plans.{OptionsInRange, marks_of};
 ghost use Rattle.level_words.specs.Settings.{LevelInRange, level_seen};
 ghost use Rattle.drive_stream.specs.Endings.{ExplainsOpen};
-ghost use Rattle.psr_level.specs.Levels.{CanLevel, Leaves, Opens, Refuses, Streams};
+ghost use Rattle.psr_level.specs.Levels.{CanLevel, Leaves, Opens, Refuses, Streams, level_block};
 
 use crate::drain::{drain, levels_are_fronts, stretches_are_whole};
 use crate::refusal::LevelRefusal;
@@ -136,6 +136,8 @@ impl<'a> Streaming for LevelTask<'a> {
     type Refusal = LevelRefusal;
 
     ghost holds = { λ task. LevelInRange (level_seen task.settings.now) };
+
+    ghost block = { λ task o. level_block o };
 
     ghost takes = { λ task o header. CanLevel (level_seen task.settings.now) o header };
 

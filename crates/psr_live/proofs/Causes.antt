@@ -56,7 +56,7 @@ use Rattle.psr_live.specs.declared.task.LiveRefusal.{LiveRefusal}
 use Rattle.psr_live.specs.declared.task.LiveRefusal.TheVariants as refusals
 use Rattle.psr_live.specs.Causes.{CausesAreAnswered, EachIsAnswered, Fails, FailsBefore, FailsReading, IsAnswered, IsOutcome, LiveSeen}
 use Rattle.psr_live.specs.Outcome.{AnswersCauses, EndsAtCheck, EndsAtWords, EndsLive, EndsStreamed, LeavesIn, SayLive, spectra_in, task_in}
-use Rattle.psr_live.specs.Task.{LeavesLive, RefusesLive}
+use Rattle.psr_live.specs.Task.{LeavesLive, RefusesLive, live_block}
 use Rattle.psr_live.specs.Texts.{stop_of_stream}
 use Rattle.psr_live.specs.Words.{live_alone}
 use Rattle.psr_live.proofs.Ends.{still_told, told_at, went_through}
@@ -301,7 +301,7 @@ module _ (words : List (List ℕ)) (is_calm : Type 0) (seen : LiveSeen) (o : IsO
     module _ (joined : BytesAreJoined) (accepted : AcceptedIsNotRefused) (from : Checkpoint) (told : Told)
         (names : told.bytes_under ≡ seen.inputs.told.bytes_under) (end : Option (StreamStop LiveRefusal))
         (is : o.stop ≡ stop_of_stream end)
-        (ends : EndsStream (λ p header. plan_refusal p s.search ≡ None)
+        (ends : EndsStream live_block (λ p header. plan_refusal p s.search ≡ None)
         (λ p header refusal. RefusesLive s.search p refusal) (LeavesIn words s from) (with_search tt s) told
         seen.out_before seen.out_after end)
         (causes : AnswersCauses s (LeavesIn words s from) told seen.out_before seen.out_after end)
@@ -316,7 +316,7 @@ module _ (words : List (List ℕ)) (is_calm : Type 0) (seen : LiveSeen) (o : IsO
           × Rose seen.out_before.faults seen.out_after.faults
 
       sunk : end ≡ Some (streamed.Run halts.SinkFault) → (files : List (List ℕ)) → Firsts files → HasSunk files
-      sunk sink files are = by (subst (EndsStream (λ p header. plan_refusal p s.search ≡ None)
+      sunk sink files are = by (subst (EndsStream live_block (λ p header. plan_refusal p s.search ≡ None)
           (λ p header refusal. RefusesLive s.search p refusal) (LeavesIn words s from) (with_search tt s) told
           seen.out_before seen.out_after) sink ends)
         where
@@ -329,7 +329,7 @@ module _ (words : List (List ℕ)) (is_calm : Type 0) (seen : LiveSeen) (o : IsO
               SaysBefore (λ p header refusal. RefusesLive s.search p refusal) (with_search tt s) told (streamed.Run x) in
               (subst Says (sym e) says).0
 
-          by : EndsStream (λ p header. plan_refusal p s.search ≡ None)
+          by : EndsStream live_block (λ p header. plan_refusal p s.search ≡ None)
               (λ p header refusal. RefusesLive s.search p refusal) (LeavesIn words s from) (with_search tt s) told
               seen.out_before seen.out_after (Some (streamed.Run halts.SinkFault)) → HasSunk files
           by (inl e) = absurd (early e.what e.is e.says)
@@ -509,7 +509,7 @@ module _ (words : List (List ℕ)) (is_calm : Type 0) (seen : LiveSeen) (o : IsO
             EachIsAnswered Calm from s seen
         by_stream e =
             let Ends : SettingsSeen → Checkpoint → Type 0 = λ t c.
-            EndsStream (λ p header. plan_refusal p t.search ≡ None)
+            EndsStream live_block (λ p header. plan_refusal p t.search ≡ None)
             (λ p header refusal. RefusesLive t.search p refusal) (LeavesIn words t c) (with_search tt t) e.told
             seen.out_before seen.out_after e.streamed in
             let Causes : SettingsSeen → Checkpoint → Type 0 = λ t c.

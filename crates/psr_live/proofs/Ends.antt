@@ -49,7 +49,7 @@ use Rattle.psr_live.specs.declared.task.LiveRefusal.{LiveRefusal}
 use Rattle.psr_live.specs.declared.task.LiveRefusal.TheVariants as refusals
 use Rattle.psr_live.specs.Outcome.{EndsLive, EndsStreamed, ForLive, LeavesIn, SayLive, WritesText, spectra_in, text_in}
 use Rattle.psr_live.specs.Reads.{IsRefused}
-use Rattle.psr_live.specs.Task.{RefusesLive}
+use Rattle.psr_live.specs.Task.{RefusesLive, live_block}
 use Rattle.psr_live.specs.Texts.{live_note, live_statuses, part_stop, stop_of_stream}
 use Rattle.psr_live.specs.Words.{live_alone}
 
@@ -147,7 +147,7 @@ module _ (joined : BytesAreJoined) (takes : Observation → HeaderText → Type 
   CameToEnd = AreWalked w × OfHead takes w × (walk_stop w ≡ walk.Whole)
       × OfHead (λ o header. leaves o header (transfer_data w 0) (ending_at stop) before after) w
 
-  fed_whole : EndsFed takes leaves s told before after stop → CameToEnd
+  fed_whole : EndsFed live_block takes leaves s told before after stop → CameToEnd
   fed_whole e =
       let came = whole_end e.feed e.ending stop e.is own in
       let Is : FeedEnd → Type 0 = λ end. IsStopOf end e.ending stop in
@@ -165,7 +165,7 @@ module _ (joined : BytesAreJoined) (takes : Observation → HeaderText → Type 
       )
 
   -- where it was opened
-  pub came_whole : EndsStream takes refuses leaves s told before after stop →
+  pub came_whole : EndsStream live_block takes refuses leaves s told before after stop →
       (EndsEarly refuses s told before after stop → ⊥) → CameToEnd
   came_whole (inl early) opened = absurd (opened early)
   came_whole (inr (inl fed)) opened = fed_whole fed
@@ -199,7 +199,7 @@ no_stream_stop (Some stop) is = absurd cc
 module _ (joined : BytesAreJoined) (words : List (List ℕ)) (s : SettingsSeen) (from : Checkpoint) (told : Told)
     (before after : SinkSeen) (one : length s.starts ≡ 1) where
   abbrev pub Streamed : Option (StreamStop LiveRefusal) → Type 0
-  Streamed stop = EndsStream (λ o header. plan_refusal o s.search ≡ None)
+  Streamed stop = EndsStream live_block (λ o header. plan_refusal o s.search ≡ None)
       (λ o header refusal. RefusesLive s.search o refusal) (LeavesIn words s from) (with_search tt s) told before after
       stop
 
@@ -408,7 +408,7 @@ stream_known : (takes : Observation → HeaderText → Type 0)
     (refuses : Observation → HeaderText → LiveRefusal → Type 0)
     (leaves : Observation → HeaderText → List ℕ → Ending LiveRefusal → SinkSeen → SinkSeen → Type 0) (s : RunSeen)
     (told : Told) (before after : SinkSeen) (stop : Option (StreamStop LiveRefusal)) →
-    EndsStream takes refuses leaves s told before after stop → IsKnownEnd stop
+    EndsStream live_block takes refuses leaves s told before after stop → IsKnownEnd stop
 stream_known takes refuses leaves s told before after stop (inl e) =
     subst IsKnownEnd (sym e.is) (early_known s told refuses e.what e.says)
 stream_known takes refuses leaves s told before after stop (inr (inl e)) = fed_known e.feed e.ending stop e.is

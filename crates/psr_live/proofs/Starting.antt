@@ -33,7 +33,7 @@ use Rattle.psr_part.specs.Texts.{stop_of_checkpoint}
 use Rattle.psr_live.specs.declared.task.LiveRefusal.{LiveRefusal}
 use Rattle.psr_live.specs.declared.task.LiveRefusal.TheVariants as refusal
 use Rattle.psr_live.specs.Outcome.{AnswersCauses, EndsLive, GoesOnFrom, SayLive}
-use Rattle.psr_live.specs.Task.{LeavesLive, RefusesLive}
+use Rattle.psr_live.specs.Task.{LeavesLive, RefusesLive, live_block}
 use Rattle.psr_live.specs.Texts.{stop_of_stream}
 use Rattle.psr_live.specs.Words.{every_in}
 
@@ -124,17 +124,18 @@ to_stream (Some (streamed.Refused (refusal.Beyond place spectra))) is = absurd c
 -- the laws of a run, of this one
 module _ (s : SettingsSeen) (range : RunInRange (with_search tt s)) (one : length s.starts ≡ 1)
     (leaves : Observation → HeaderText → List ℕ → Ending LiveRefusal → SinkSeen → SinkSeen → Type 0)
-    (accepts : AcceptedGoesThrough (λ o header. plan_refusal o s.search ≡ None)
+    (accepts : AcceptedGoesThrough live_block (λ o header. plan_refusal o s.search ≡ None)
     (λ o header refusal. RefusesLive s.search o refusal) leaves)
-    (heads : HeadersAreAnswered (λ o header. plan_refusal o s.search ≡ None)
+    (heads : HeadersAreAnswered live_block (λ o header. plan_refusal o s.search ≡ None)
     (λ o header refusal. RefusesLive s.search o refusal) leaves)
-    (refuses : RefusalsAreAnswered (λ o header. plan_refusal o s.search ≡ None)
+    (refuses : RefusalsAreAnswered live_block (λ o header. plan_refusal o s.search ≡ None)
     (λ o header refusal. RefusesLive s.search o refusal) leaves)
-    (walks : StopsAreAnswered (λ o header. plan_refusal o s.search ≡ None)
+    (walks : StopsAreAnswered live_block (λ o header. plan_refusal o s.search ≡ None)
     (λ o header refusal. RefusesLive s.search o refusal) leaves) where
   pub answered : (told : Told) (before after : SinkSeen) (stop : Option (StreamStop LiveRefusal)) →
-      EndsStream (λ o header. plan_refusal o s.search ≡ None) (λ o header refusal. RefusesLive s.search o refusal) leaves
-      (with_search tt s) told before after stop → AnswersCauses s leaves told before after stop
+      EndsStream live_block (λ o header. plan_refusal o s.search ≡ None)
+      (λ o header refusal. RefusesLive s.search o refusal) leaves (with_search tt s) told before after stop →
+      AnswersCauses s leaves told before after stop
   answered told before after stop ends =
       let run : IsOfOne (with_search tt s) = record { range = range; one = one } in
       record {
@@ -151,7 +152,8 @@ module _ {I : Type 0} (told : I → Told) (is_calm : I → Type 0) (faults : I �
       HasReadFrom told is_calm faults (accepted from ≡ refused check.Failed) old mid →
       HasReadFrom told is_calm faults (stop ≡ Some (streamed.Run ReadFault)) mid new →
       (is_calm mid → HoldsAll (told mid) s.names → stop ≢ Some (streamed.Run ReadFault)) →
-      EndsStream (λ o header. plan_refusal o s.search ≡ None) (λ o header refusal. RefusesLive s.search o refusal)
+      EndsStream live_block (λ o header. plan_refusal o s.search ≡ None)
+      (λ o header refusal. RefusesLive s.search o refusal)
       (λ o header bytes ending start now.
       LeavesLive o (record { search = s.search; every = every; from = from }) bytes ending start now)
       (with_search tt s) (told mid) before after stop →
@@ -161,7 +163,8 @@ module _ {I : Type 0} (told : I → Told) (is_calm : I → Type 0) (faults : I �
       EndsLive words (seen_of told faults old new) (is_calm old) before after result
   streamed_to from goes every every_is stop result is checked read serves ends causes =
       let Ends : ℕ → Type 0 = λ n.
-      EndsStream (λ o header. plan_refusal o s.search ≡ None) (λ o header refusal. RefusesLive s.search o refusal)
+      EndsStream live_block (λ o header. plan_refusal o s.search ≡ None)
+      (λ o header refusal. RefusesLive s.search o refusal)
       (λ o header bytes ending start now.
       LeavesLive o (record { search = s.search; every = n; from = from }) bytes ending start now)
       (with_search tt s) (told mid) before after stop in

@@ -39,7 +39,7 @@ use Rattle.psr_part.specs.declared.stop.PartStop.TheVariants.{Run}
 use Rattle.psr_part.specs.Part.{check_names, check_text_of}
 use Rattle.psr_part.specs.Texts.{end_status, stop_of_checkpoint}
 use Rattle.psr_live.specs.declared.task.LiveRefusal.{LiveRefusal}
-use Rattle.psr_live.specs.Task.{LeavesLive, RefusesLive, spectra_of, text_of}
+use Rattle.psr_live.specs.Task.{LeavesLive, RefusesLive, spectra_of, text_of, live_block}
 use Rattle.psr_live.specs.Texts.{live_note, live_statuses, stop_of_stream}
 use Rattle.psr_live.specs.Words.{every_in, live_alone}
 
@@ -136,7 +136,7 @@ pub record EndsStreamed (words : List (List ℕ)) (inputs : InputsSeen) (is_calm
   pub names : told.bytes_under ≡ inputs.told.bytes_under
   pub streamed : Option (StreamStop LiveRefusal)
   pub is : stop ≡ stop_of_stream streamed
-  pub ends : EndsStream (λ o header. plan_refusal o settings.search ≡ None)
+  pub ends : EndsStream live_block (λ o header. plan_refusal o settings.search ≡ None)
       (λ o header refusal. RefusesLive settings.search o refusal)
       (LeavesIn words settings from) (with_search tt settings) told before after streamed
   pub causes : AnswersCauses settings (LeavesIn words settings from) told before after streamed

@@ -1,11 +1,12 @@
 -- What a search does that prints its parts while the data come.
 -- Source: this project's choice.
-use Rattle.std.specs.Prelude.{◌≡◌, ℕ, ◌<◌, ◌≤◌, ◌++◌, All as Each, List, Option}
+use Rattle.std.specs.Prelude.{◌≡◌, ℕ, ◌*◌, ◌<◌, ◌≤◌, ◌++◌, All as Each, List, Option}
 use Rattle.dada_model.specs.Observation.{Observation}
 use Rattle.psr_base.specs.Written.{SinkSeen, WroteAll, WroteFront}
 use Rattle.search_model.specs.declared.search.Search.{Search}
 use Rattle.search_model.specs.Observed.{candidates_of, filterbank_of}
 use Rattle.search_model.specs.Plan.{PlanRefusal, plan_refusal}
+use Rattle.search_engine.specs.Scope.{spectrum_size}
 use Rattle.run_stop.specs.Runs.{IsPlanCause}
 use Rattle.drive_stream.specs.Endings.{Ending, All, Early, Failed, Refused, Midway, AtEnd, AtStop}
 use Rattle.live_search.specs.LiveText.{layout_of, live_text, stopped_text}
@@ -25,6 +26,10 @@ IsRefusal first (Beyond place spectra) = ⊥
 
 abbrev pub RefusesLive : Search → Observation → LiveRefusal → Type 0
 RefusesLive s o refusal = IsRefusal (plan_refusal o s) refusal
+
+-- how many bytes a block of the data has: those of 512 spectra
+abbrev pub live_block : Observation → ℕ
+live_block o = 512 * spectrum_size o
 
 -- how many spectra these data bytes of an observation have
 abbrev pub spectra_of : Observation → List ℕ → ℕ

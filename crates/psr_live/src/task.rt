@@ -4,7 +4,7 @@ ghost use Rattle.search_model.specs.Plan.{PlanRefusal, plan_refusal};
 ghost use Rattle.search_engine.specs.Plan.{Explains};
 ghost use Rattle.drive_stream.specs.Endings.{ExplainsOpen};
 ghost use Rattle.live_search.specs.Live.{IsTask, WasFed};
-ghost use Rattle.psr_live.specs.Task.{IsRefusal, LeavesLive, RefusesLive, Streams, task_of};
+ghost use Rattle.psr_live.specs.Task.{IsRefusal, LeavesLive, RefusesLive, Streams, live_block, task_of};
 
 use dada_header::Header;
 use drive_stream::{FinishFault, OpenFault, Streaming};
@@ -71,14 +71,14 @@ fn open_fault(fault: PlanFault) -> OpenFault<LiveRefusal>
     }
 }
 
-// How many bytes one step of spectra has, or the most that fit.
+// How many bytes one step of spectra has.
 fn step_bytes(observation: &Observation) -> u32
-    ensures { 1 ≤ result }
+    ensures least { 1 ≤ result }
+    ensures size { result ≡ live_block observation.now }
 {
     observation.lies_in_range();
     let sample = observation.npol() * observation.nbit() / 8;
-    let bytes = u64::from(observation.channels()) * u64::from(sample) * u64::from(STEP);
-    bytes.max(1).min(u64::from(u32::MAX)) as u32
+    STEP * (observation.channels() * sample)
 }
 
 impl Streaming for LiveTask {
@@ -87,6 +87,8 @@ impl Streaming for LiveTask {
     type Refusal = LiveRefusal;
 
     ghost holds = { λ t. IsTask (task_of t) };
+
+    ghost block = { λ t o. live_block o };
 
     ghost takes = { λ t o header. plan_refusal o t.search ≡ None };
 

@@ -23,8 +23,8 @@ pub returns-in-Ok-clause-opened : goal.returns-in-Ok-clause-opened
 returns-in-Ok-clause-opened g c o one =
     is_opened g.I.Inputs.told g.I.Inputs.is_open (run_seen c.args.run.now) c.args.feeder.now
     c.args.observations.now c.requires.begun o c.header.result.now one c.header.ensures
-    (g.T.Streaming.takes c.args.task.now) (g.T.Streaming.opens c.args.task.now) c.size_for.result c.go_on.new.feeder
-    c.in-Ok.stream c.size_for.ensures
+    (g.T.Streaming.block c.args.task.now) (g.T.Streaming.takes c.args.task.now) (g.T.Streaming.opens c.args.task.now)
+    c.size_for.result c.go_on.new.feeder c.in-Ok.stream c.size_for.ensures.fits (c.size_for.ensures.cut o one)
     (c.go_on.ensures.plan _ _ _ _ c.requires.begun.plan) c.go_on.ensures.ready c.go_on.ensures.inputs
     (c.in-Ok.ensures.takes o one) (c.in-Ok.ensures.opened o one)
 

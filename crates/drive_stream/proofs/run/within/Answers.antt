@@ -7,16 +7,17 @@ use Rattle.drive_stream.proofs.run.within.Goals as goal
 pub returns-in-Err-clause-ends : goal.returns-in-Err-clause-ends
 returns-in-Err-clause-ends g c =
     let t = g.T.Streaming in
-    no_memory_ends (t.takes c.args.task.now) (t.refuses c.args.task.now) (t.leaves c.args.task.now)
-    (run_seen c.args.run.now) (g.I.Inputs.told c.args.inputs.now) (g.K.Sink.seen c.args.out.now)
+    no_memory_ends (t.block c.args.task.now) (t.takes c.args.task.now) (t.refuses c.args.task.now)
+    (t.leaves c.args.task.now) (run_seen c.args.run.now) (g.I.Inputs.told c.args.inputs.now)
+    (g.K.Sink.seen c.args.out.now)
 
 pub returns-in-Err-open-clause-ends : goal.returns-in-Err-open-clause-ends
 returns-in-Err-open-clause-ends g c =
     let t = g.T.Streaming in
     let i = g.I.Inputs in
-    stopped_ends i.told (t.takes c.args.task.now) (t.refuses c.args.task.now) (t.leaves c.args.task.now)
-    (run_seen c.args.run.now) c.args.inputs.now c.over-feeder.result.inputs.now (g.K.Sink.seen c.args.out.now)
-    c.in-Err-open.stop c.over-feeder.ensures.inputs c.in-Err-open.ensures.stopped
+    stopped_ends i.told (t.block c.args.task.now) (t.takes c.args.task.now) (t.refuses c.args.task.now)
+    (t.leaves c.args.task.now) (run_seen c.args.run.now) c.args.inputs.now c.over-feeder.result.inputs.now
+    (g.K.Sink.seen c.args.out.now) c.in-Err-open.stop c.over-feeder.ensures.inputs c.in-Err-open.ensures.stopped
 
 pub returns-in-Ok-open-clause-serves : goal.returns-in-Ok-open-clause-serves
 returns-in-Ok-open-clause-serves g c =
