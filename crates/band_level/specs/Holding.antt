@@ -10,8 +10,8 @@ use Rattle.band_level.specs.Ranges.{FormatInRange}
 abbrev pub sums_of : Sums → List ℕ
 sums_of s = if s.is_wide then s.wide.items else s.narrow.items
 
--- The first `count` spectra are held as the sums of their cells, one spectrum after another. What came behind them is held
--- as bytes, of which there may be `limit`. In all there is room for spectra of `room` bytes.
+-- The first `count` spectra are held as the sums of their cells, one spectrum after another. What came behind them is
+-- held as bytes, of which there may be `limit`. In all there is room for spectra of `room` bytes.
 pub record Holding : Type 0 where
   pub format : Format
   pub room : ℕ
