@@ -23,8 +23,7 @@ unfolding first_levels
 no_levels k b = refl
 
 pub starts : (l : Levelling) → FormatInRange l.task.format → 0 < l.task.plan.spectra → l.held ≡ cleared l.held
-    → l.first ≡ 0
-    → l.last ≡ 0 → l.is_scaled ≡ false → l.has_ended ≡ false
+    → l.first ≡ 0 → l.last ≡ 0 → l.is_scaled ≡ false → l.has_ended ≡ false
     → ((i : ℕ) → slice_index l.fractions i ≡ 0) → Levels l [] []
 starts l range some held first last not_scaled goes_on none =
     let sb = spectrum_bytes l.task.format in
@@ -62,16 +61,18 @@ spectra_are : (l : Levelling) (bytes : List ℕ) (start : ℕ) → FormatInRange
     → start + held_bytes l.task.format l.held / spectrum_bytes l.task.format ≡ (band_of l bytes).spectra
 spectra_are l bytes start range place =
     let sb = spectrum_bytes l.task.format in
+    let held = held_bytes l.task.format l.held in
     let size = place.size in
-    let split : held_bytes l.task.format l.held / sb * sb + held_bytes l.task.format l.held % sb ≡ held_bytes l.task.format l.held = div-add-mod' (held_bytes l.task.format l.held) sb in
-    let rest : held_bytes l.task.format l.held % sb < sb = mod_below (held_bytes l.task.format l.held) sb (some_bytes l.task.format range) in
-    let all : length bytes ≡ (start + held_bytes l.task.format l.held / sb) * sb + held_bytes l.task.format l.held % sb = omega arith in
-    sym (ap (λ n. n / sb) all ∙ div-mul-add (start + held_bytes l.task.format l.held / sb) sb (held_bytes l.task.format l.held % sb) rest)
+    let split : held / sb * sb + held % sb ≡ held = div-add-mod' held sb in
+    let rest : held % sb < sb = mod_below held sb (some_bytes l.task.format range) in
+    let all : length bytes ≡ (start + held / sb) * sb + held % sb = omega arith in
+    sym (ap (λ n. n / sb) all ∙ div-mul-add (start + held / sb) sb (held % sb) rest)
 
 -- those of a short stretch are few
 few : (l : Levelling) (start stretch : ℕ) → FormatInRange l.task.format → Waits l start stretch
     → held_bytes l.task.format l.held / spectrum_bytes l.task.format < l.task.plan.spectra
-few l start stretch range waits = div_below (held_bytes l.task.format l.held) (spectrum_bytes l.task.format) l.task.plan.spectra
+few l start stretch range waits =
+    div_below (held_bytes l.task.format l.held) (spectrum_bytes l.task.format) l.task.plan.spectra
     (some_bytes l.task.format range) waits.short
 
 -- with the scales that are there
@@ -113,7 +114,8 @@ ends_scaled l count bytes out range some goes_on none is_count scaled (start, st
 -- with the scales of what is held, where there are none
 pub ends_short : (l : Levelling) (count : ℕ) (bytes out gains bases lifts : List ℕ) → FormatInRange l.task.format
     → 0 < l.task.plan.spectra → l.has_ended ≡ false → pending l ≡ 0
-    → count ≡ held_bytes l.task.format l.held / spectrum_bytes l.task.format → count * spectrum_bytes l.task.format ≤ held_bytes l.task.format l.held
+    → count ≡ held_bytes l.task.format l.held / spectrum_bytes l.task.format
+    → count * spectrum_bytes l.task.format ≤ held_bytes l.task.format l.held
     → l.is_scaled ≡ false → HeldScales l l.held count gains bases lifts
     → Levels l bytes out
     → Levels (record l {

@@ -195,7 +195,8 @@ gives_on l count fractions piece bytes out range some next makes left (start, st
 pub gives_last : (l : Levelling) (count : ℕ) (fractions piece bytes out : List ℕ) → FormatInRange l.task.format
     → 0 < l.task.plan.spectra → 0 < pending l → MakesSpectra l count fractions piece
     → l.has_ended ≡ false → l.first + count ≡ l.last → Levels l bytes out
-    → Levels (record l { fractions = fractions; piece = piece; held = cleared l.held; first = 0; last = 0 }) bytes (out ++ piece)
+    → Levels (record l { fractions = fractions; piece = piece; held = cleared l.held; first = 0; last = 0 }) bytes
+    (out ++ piece)
 gives_last l count fractions piece bytes out range some next makes goes_on all (start, stretch, stands, is_out) =
     elim stands.stage [
       | inl waits ↦ let e = waits.last in absurd (omega arith)

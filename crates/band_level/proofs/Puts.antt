@@ -7,7 +7,7 @@ use Rattle.std.proofs.lemmas.List.{get_or_append_left, get_or-drop, get_or_past,
 use Rattle.band_level.specs.declared.format.Format.{Format}
 use Rattle.band_level.specs.Ranges.{FormatInRange}
 use Rattle.band_level.specs.Values.{cells, spectrum_bytes, cell_value, most_value}
-use Rattle.band_level.specs.Holding.{Holding, AddsUp, HasSpectra, Holds, IsRoomFor, Puts, WritesRow, cleared, held_bytes, held_value}
+use Rattle.band_level.specs.Holding.{Holding, AddsUp, HasSpectra, Holds, IsRoomFor, Puts, WritesRow, cleared, held_value}
 use Rattle.band_level.proofs.Shifts.{cell_shift}
 
 -- ---- sizes
@@ -128,7 +128,8 @@ pub cell_dropped : (f : Format) (bytes : List ℕ) (n t u i : ℕ) → FormatInR
     → n + t * spectrum_bytes f ≡ u * spectrum_bytes f → (t + 1) * spectrum_bytes f ≤ length (drop n bytes) → i < cells f
     → cell_value f (drop n bytes) t i ≡ cell_value f bytes u i
 cell_dropped f bytes n t u i range at fits here =
-    cell_shift f (drop n bytes) bytes n (length (drop n bytes)) t u i range (λ k low. get_or-drop n bytes k 0) at fits here
+    cell_shift f (drop n bytes) bytes n (length (drop n bytes)) t u i range (λ k low. get_or-drop n bytes k 0) at fits
+    here
 
 -- the value of a spectrum that was added up, and of one behind them
 pub value_summed : (f : Format) (h : Holding) (t i : ℕ) → t < h.count

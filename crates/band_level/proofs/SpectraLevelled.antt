@@ -65,7 +65,8 @@ spectrum_written k b t levels done long is finishes =
     (fill_by_all (λ i. level k b i t) levels (cells k.format) 0 long is))
 
 -- one spectrum that is held
-pub one_levelled : (k : Task) (held : Holding) (gains bases lifts row levels done old new before after : List ℕ) (first : ℕ)
+pub one_levelled : (k : Task) (held : Holding) (gains bases lifts row levels done old new before after : List ℕ)
+    (first : ℕ)
     → length row ≡ cells k.format → length levels ≡ cells k.format
     → LevelsRow k.plan.most row gains bases lifts old levels new
     → ((i : ℕ) → i < cells k.format → slice_index row i ≡ held_value k.format held first i)

@@ -1,5 +1,5 @@
 -- The steps of a leveller, joined.
-use Rattle.std.proofs.Common.{◌≡◌, ℕ, refl, ◌+◌, ◌*◌, ◌/◌, ◌<◌, ◌≤◌, ◌⊎◌, inl, inr, Bool, true, false, List, [], ◌++◌, length, ◌∙◌, sym, ap, subst, arith}
+use Rattle.std.proofs.Common.{◌≡◌, ℕ, refl, ◌+◌, ◌*◌, ◌/◌, ◌<◌, ◌≤◌, ◌⊎◌, inl, inr, Bool, true, false, List, [], ◌∙◌, sym, ap, subst, arith}
 use Rattle.std.proofs.lemmas.Bool.{cases_lt}
 use Rattle.band_level.specs.Ranges.{FormatInRange}
 use Rattle.band_level.specs.Values.{cells, spectrum_bytes}
@@ -141,7 +141,8 @@ module _ (l m : Levelling) (count : ℕ) (fractions piece : List ℕ) (range : F
 pub gives_by : (l mid m : Levelling) (count : ℕ) → FormatInRange l.task.format → 0 < l.task.plan.spectra
     → 0 < pending l → 0 < count → MakesPiece l mid count
     → ((mid.has_ended ≡ true) ⊎ (mid.first + count < mid.last) → m ≡ record mid { first = mid.first + count })
-    → (mid.has_ended ≡ false → mid.first + count ≡ mid.last → m ≡ record mid { held = cleared mid.held; first = 0; last = 0 })
+    → (mid.has_ended ≡ false → mid.first + count ≡ mid.last
+    → m ≡ record mid { held = cleared mid.held; first = 0; last = 0 })
     → Gives l m
 gives_by l mid m count range some next some_count makes on over =
     let fractions = mid.fractions in

@@ -30,7 +30,8 @@ scales_in cells scale gains bases lifts gains' bases' lifts' g b l holds i lt =
 
 -- the levelling of lists that are the same
 pub levels_in : (k k' : Task) (held : Holding) (gains bases lifts old new piece : List ℕ) (held' : Holding)
-    (gains' bases' lifts' old' new' piece' : List ℕ) (first count : ℕ) → k ≡ k' → held ≡ held' → gains ≡ gains' → bases ≡ bases' → lifts ≡ lifts' → old ≡ old' → new ≡ new'
+    (gains' bases' lifts' old' new' piece' : List ℕ) (first count : ℕ) → k ≡ k' → held ≡ held' → gains ≡ gains'
+    → bases ≡ bases' → lifts ≡ lifts' → old ≡ old' → new ≡ new'
     → piece ≡ piece' → LevelsSpectra k held gains bases lifts first count old new [] piece
     → LevelsSpectra k' held' gains' bases' lifts' first count old' new' [] piece'
 levels_in k k' held gains bases lifts old new piece held' gains' bases' lifts' old' new' piece' first count t a b c d e g h

@@ -1,5 +1,5 @@
 -- Rows that are written into sums of either width.
-use Rattle.std.proofs.Common.{◌≡◌, ℕ, Bool, true, false, cond, List, subst, sym, ap}
+use Rattle.std.proofs.Common.{◌≡◌, ℕ, Bool, true, false, cond, List, subst, ap}
 use Rattle.band_level.specs.Holding.{WritesRow}
 
 pub if_wide : (b : Bool) (xs ys : List ℕ) → b ≡ true → cond b xs ys ≡ xs

@@ -16,7 +16,8 @@ loop-t-preserved c = record {
     | inr now ↦
         let e : c.loop-t.t ≡ t = omega arith in
         let P : ℕ → Type 0 = λ n. held_value c.args.format c.args.held.now n i ≤ 4194303 in
-        subst P e (omega (arith, c.read.ensures.values i here, c.read.ensures.small i, most_small c.args.format c.requires.format))
+        let small = most_small c.args.format c.requires.format in
+        subst P e (omega (arith, c.read.ensures.values i here, c.read.ensures.small i, small))
   ];
 }
 

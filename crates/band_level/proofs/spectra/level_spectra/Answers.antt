@@ -26,8 +26,8 @@ level_spectrum-requires-clause-room c =
 pub loop-t-preserved : goal.loop-t-preserved
 loop-t-preserved c = record {
   carried = c.level_spectrum.ensures.carried;
-  levels = spectra_next (task_of c.args.format c.args.plan c.args.masked.now) c.args.held.now c.args.gains.now c.args.bases.now c.args.lifts.now
-      c.args.fractions.now c.loop-t.fractions c.level_spectrum.new.fractions []
+  levels = spectra_next (task_of c.args.format c.args.plan c.args.masked.now) c.args.held.now c.args.gains.now
+      c.args.bases.now c.args.lifts.now c.args.fractions.now c.loop-t.fractions c.level_spectrum.new.fractions []
       (take (c.loop-t.t * (length c.args.row.now * (c.args.plan.bits / 8))) c.loop-t.out) c.level_spectrum.new.out
       c.args.first c.loop-t.t _ _
       (next c.loop-t.t _ (written_bytes c.args.format c.args.plan) (ap (λ n. n * (c.args.plan.bits / 8)) c.requires.rows.row_long))
@@ -36,8 +36,8 @@ loop-t-preserved c = record {
 
 pub returns-clause-levels : goal.returns-clause-levels
 returns-clause-levels c =
-    spectra_all (task_of c.args.format c.args.plan c.args.masked.now) c.args.held.now c.args.gains.now c.args.bases.now c.args.lifts.now
-    c.args.fractions.now c.loop-t.fractions c.loop-t.out c.args.first c.loop-t.t c.args.count _ _ (omega arith)
+    spectra_all (task_of c.args.format c.args.plan c.args.masked.now) c.args.held.now c.args.gains.now
+    c.args.bases.now c.args.lifts.now c.args.fractions.now c.loop-t.fractions c.loop-t.out c.args.first c.loop-t.t c.args.count _ _ (omega arith)
     (ap (λ n. n * (length c.args.row.now * (c.args.plan.bits / 8))) (let e : c.loop-t.t ≡ c.args.count = omega arith in e)
     ∙ ap (λ n. c.args.count * (n * (c.args.plan.bits / 8))) c.requires.rows.row_long)
     c.loop-t.invariant.levels

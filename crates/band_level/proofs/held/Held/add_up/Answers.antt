@@ -1,4 +1,4 @@
-use Rattle.std.proofs.Common.{◌≡◌, ℕ, inr, refl, ◌+◌, ◌*◌, ◌<◌, ◌≤◌, length, take, slice_index, ◌∙◌, sym, ap, subst, arith}
+use Rattle.std.proofs.Common.{◌≡◌, inr, ◌+◌, ◌*◌, ◌<◌, ◌≤◌, length, slice_index, ◌∙◌, sym, ap, subst, arith}
 use Rattle.std.proofs.Math.Nat.{mul-le-mul_right}
 use Rattle.std.proofs.lemmas.List.{length-take-le}
 use Rattle.band_level.specs.Values.{cells, spectrum_bytes, cell_value, most_value}

@@ -26,6 +26,7 @@ loop-taken-preserved c =
         ap length (take_rest bytes taken),
         length-drop taken bytes,
       );
-      puts = subst (λ (xs : List ℕ). Puts old.format old c.put_some-taken.new.self xs) (take-append-rest taken more bytes)
+      puts = subst (λ (xs : List ℕ). Puts old.format old c.put_some-taken.new.self xs)
+          (take-append-rest taken more bytes)
           (puts_join old.format old c.loop-taken.self c.put_some-taken.new.self (take taken bytes) piece puts next);
     }

@@ -44,9 +44,9 @@ read-requires c =
     let wide : length c.args.row.now ≡ cells f.format = c.requires.cells ∙ ap cells (sym same) in
     record {
       inside = subst (λ (n : ℕ). c.args.t * n + n ≤ length (sums_of f.sums)) (sym wide)
-          (has_sums f.format f.spectra f.count (length f.bytes.items) (length (sums_of f.sums)) c.args.t f.spectrum f.room
-          f.filled inv.kind inv.spectrum_is (omega (arith, inv.spectrum_is, some_bytes f.format inv.in_range)) inv.room_is
-          inv.inside c.if-t-self.true);
+          (has_sums f.format f.spectra f.count (length f.bytes.items) (length (sums_of f.sums)) c.args.t f.spectrum
+          f.room f.filled inv.kind inv.spectrum_is
+          (omega (arith, inv.spectrum_is, some_bytes f.format inv.in_range)) inv.room_is inv.inside c.if-t-self.true);
     }
 
 pub read_row-requires-clause-inside : goal.read_row-requires-clause-inside

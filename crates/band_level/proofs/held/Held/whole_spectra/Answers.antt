@@ -1,4 +1,4 @@
-use Rattle.std.proofs.Common.{◌≡◌, ◌/◌, ◌∙◌, ap, arith}
+use Rattle.std.proofs.Common.{◌/◌, ◌∙◌, ap, arith}
 use Rattle.band_level.specs.Values.{spectrum_bytes}
 use Rattle.band_level.specs.Holding.{Holding, held_bytes}
 use Rattle.band_level.proofs.Standing.{some_bytes}

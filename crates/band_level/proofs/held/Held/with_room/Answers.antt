@@ -16,7 +16,8 @@ invariant_of-result c =
       inside = omega arith;
       row_long = zero_long c.in_ok-words.field-0.items _ c.in_ok-words.ensures;
       small = λ k lt. absurd (omega arith);
-      narrow = narrow_for c.args.format.bits c.in_ok-open.field-0.is_wide c.requires.format.bits c.in_ok-open.ensures.wide;
+      narrow = narrow_for c.args.format.bits c.in_ok-open.field-0.is_wide c.requires.format.bits
+          c.in_ok-open.ensures.wide;
       kind = subst (λ (n : ℕ). IsRoomFor c.args.format c.args.spectra 0 n (length (sums_of c.in_ok-open.field-0)))
           (sym limit)
           (subst (λ (n : ℕ). IsRoomFor c.args.format c.args.spectra 0 c.args.limit n) (sym sums) c.requires.kind);

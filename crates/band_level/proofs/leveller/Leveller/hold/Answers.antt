@@ -1,4 +1,4 @@
-use Rattle.std.proofs.Common.{◌≡◌, ◌+◌, ◌*◌, ◌≤◌, length, take, ◌∙◌, sym, ap, subst, arith}
+use Rattle.std.proofs.Common.{◌≡◌, ◌*◌, take, ◌∙◌, subst, arith}
 use Rattle.band_level.specs.declared.format.Format.{Format}
 use Rattle.band_level.specs.Values.{spectrum_bytes}
 use Rattle.band_level.specs.Holding.{Puts, held_bytes}
@@ -9,7 +9,8 @@ pub invariant_of-self : goal.invariant_of-self
 invariant_of-self c =
     let s = c.self.invariant.stretch in
     let old = c.self.inside.held in
-    let puts = subst (λ (f : Format). Puts f old c.put.new.self (take c.put.result c.args.bytes.now)) s.same c.put.ensures.puts in
+    let puts = subst (λ (f : Format). Puts f old c.put.new.self (take c.put.result c.args.bytes.now)) s.same
+    c.put.ensures.puts in
     record {
       task = c.self.invariant.task;
       stretch = record {
@@ -29,13 +30,16 @@ invariant_of-self c =
 pub returns-clause-held : goal.returns-clause-held
 returns-clause-held c =
     let s = c.self.invariant.stretch in
-    subst (λ (o : Levelling). Puts o.task.format o.held c.put.new.self (take c.put.result c.args.bytes.now)) c.self.view_is
+    subst (λ (o : Levelling). Puts o.task.format o.held c.put.new.self (take c.put.result c.args.bytes.now))
+    c.self.view_is
     (subst (λ (f : Format). Puts f c.self.inside.held c.put.new.self (take c.put.result c.args.bytes.now)) s.same
     c.put.ensures.puts)
 
 pub returns-clause-rest : goal.returns-clause-rest
 returns-clause-rest c = λ rest.
     let s = c.self.invariant.stretch in
-    let full = subst (λ (f : Format). held_bytes f c.put.new.self ≡ c.self.inside.held.room) s.same (c.put.ensures.rest rest) in
-    subst (λ (o : Levelling). held_bytes o.task.format c.put.new.self ≡ o.task.plan.spectra * spectrum_bytes o.task.format)
+    let full = subst (λ (f : Format). held_bytes f c.put.new.self ≡ c.self.inside.held.room) s.same
+    (c.put.ensures.rest rest) in
+    subst (λ (o : Levelling).
+    held_bytes o.task.format c.put.new.self ≡ o.task.plan.spectra * spectrum_bytes o.task.format)
     c.self.view_is (full ∙ s.room)

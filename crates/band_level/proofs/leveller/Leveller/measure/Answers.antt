@@ -1,5 +1,4 @@
-use Rattle.std.proofs.Common.{ℕ, List, refl, length, ◌∙◌, sym, ap, subst}
-use Rattle.std.proofs.Common.{◌*◌, ◌≤◌}
+use Rattle.std.proofs.Common.{refl, ◌*◌, ◌≤◌, length, ◌∙◌, sym, ap, subst}
 use Rattle.band_level.specs.Values.{spectrum_bytes}
 use Rattle.band_level.specs.Holding.{held_bytes}
 use Rattle.band_level.specs.Levelling.{Levelling}

@@ -7,7 +7,8 @@ pub returns-then-self-clause-writes : goal.returns-then-self-clause-writes
 returns-then-self-clause-writes c =
     let s = c.args.self.now in
     let is = c.if-self.true in
-    let new = written c.write_wide.new.values s.wide.items s.wide.len (c.write_wide.auto.values ∙ c.as_mut_slice.ensures.len) in
+    let new = written c.write_wide.new.values s.wide.items s.wide.len
+    (c.write_wide.auto.values ∙ c.as_mut_slice.ensures.len) in
     writes_in c.args.at c.args.row.now _ _ _ _
     (c.as_mut_slice.ensures.value ∙ sym (if_wide s.is_wide s.wide.items s.narrow.items is))
     (sym new ∙ sym (if_wide s.is_wide _ _ is)) c.write_wide.ensures
@@ -26,7 +27,8 @@ pub returns-else-self-clause-writes : goal.returns-else-self-clause-writes
 returns-else-self-clause-writes c =
     let s = c.args.self.now in
     let is = c.if-self.false in
-    let new = written c.write_narrow.new.values s.narrow.items s.narrow.len (c.write_narrow.auto.values ∙ c.as_mut_slice-else-self.ensures.len) in
+    let new = written c.write_narrow.new.values s.narrow.items s.narrow.len
+    (c.write_narrow.auto.values ∙ c.as_mut_slice-else-self.ensures.len) in
     writes_in c.args.at c.args.row.now _ _ _ _
     (c.as_mut_slice-else-self.ensures.value ∙ sym (if_narrow s.is_wide s.wide.items s.narrow.items is))
     (sym new ∙ sym (if_narrow s.is_wide _ _ is)) c.write_narrow.ensures
