@@ -1,5 +1,5 @@
 // The spectra of a stretch, as they are held.
-ghost use Rattle.std.specs.Prelude.{◌≡◌, ℕ, ◌+◌, ◌*◌, ◌/◌, ◌<◌, ◌≤◌, ◌++◌, true, false, [], length, take, slice_index, IfOk};
+ghost use Rattle.std.specs.Prelude.{◌≡◌, ℕ, ◌+◌, ◌*◌, ◌/◌, ◌<◌, ◌≤◌, ◌++◌, true, false, length, take, slice_index, IfOk};
 ghost use Rattle.band_level.specs.Values.{cells, spectrum_bytes, most_value};
 ghost use Rattle.band_level.specs.Ranges.{FormatInRange};
 ghost use Rattle.band_level.specs.Holding.{Holding, AddsUp, HasSpectra, HeldFits, IsRoomFor, Puts, cleared, held_bytes, held_value, sums_of};

@@ -1,6 +1,6 @@
-use Rattle.std.proofs.Common.{List, ℕ, ◌-◌, length, take, drop, ap, subst, arith, length-drop}
+use Rattle.std.proofs.Common.{List, ℕ, ◌-◌, ◌++◌, length, take, drop, ap, sym, subst, ◌∙◌, arith, length-drop}
+use Rattle.std.proofs.Math.Seq.{take-add}
 use Rattle.std.proofs.lemmas.List.{take_rest}
-use Rattle.psr_base.proofs.Pieces.{take-append-rest}
 use Rattle.band_level.specs.declared.format.Format.{Format}
 use Rattle.band_level.specs.Holding.{Puts}
 use Rattle.band_level.proofs.Puts.{puts_none, puts_join}
@@ -27,6 +27,7 @@ loop-taken-preserved c =
         length-drop taken bytes,
       );
       puts = subst (λ (xs : List ℕ). Puts old.format old c.put_some-taken.new.self xs)
-          (take-append-rest taken more bytes)
+          (ap (λ (rest : List ℕ). take taken bytes ++ take more rest) (take_rest bytes taken)
+          ∙ sym (take-add taken more bytes))
           (puts_join old.format old c.loop-taken.self c.put_some-taken.new.self (take taken bytes) piece puts next);
     }
