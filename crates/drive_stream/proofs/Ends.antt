@@ -37,7 +37,7 @@ use Rattle.drive_stream.specs.declared.stop.StreamStop.TheVariants as stops
 use Rattle.drive_stream.specs.Endings.{Ending, All, Early, Failed, Refused, Midway, AtEnd, AtStop}
 use Rattle.drive_stream.specs.Flows.{KeepsOn}
 use Rattle.drive_stream.specs.Opening.{IsOfOne, IsOpened}
-use Rattle.drive_stream.specs.Outcome.{BeginsWith, BreaksData, OfHead, EndsFed, EndsBroken, EndsStream, ReadsRefused}
+use Rattle.drive_stream.specs.Outcome.{BeginsWith, BreaksData, BreaksFed, OfHead, EndsFed, EndsBroken, EndsStream, ReadsRefused}
 use Rattle.drive_stream.specs.Stops.{IsStopOf}
 use Rattle.drive_stream.specs.Writings.{LeavesOf, WritesTo, BreaksWriting}
 use Rattle.drive_stream.proofs.Fronts.{bytes_front, front_follows, same_front, one_start, one_of, walk_front, walk_whole, broken_front}
@@ -409,7 +409,7 @@ module _ {I S F : Type 0} (told : I → Told) (is_open is_calm : I → Type 0) (
     -- what a fault of the inputs left
     pub breaks_data : FaultsLeave I → FeederRead before (told f.inputs.now) f → (blocks : List Entry) →
         FeederHands (told j.inputs.now) j blocks → has_end j ≡ Some ReadFault →
-        BreaksData s (is_calm f.inputs.now) before (told j.inputs.now)
+        BreaksData s (is_calm f.inputs.now) before (told j.inputs.now) (place_at j) at.size blocks
     breaks_data leave read blocks hands broken =
         let now = told j.inputs.now in
         let place = place_at j in
@@ -422,9 +422,6 @@ module _ {I S F : Type 0} (told : I → Told) (is_open is_calm : I → Type 0) (
         let shut : is_calm f.inputs.now → FeederUnopened before now j =
         λ calm. kept.unopened calm before read (λ due. absurd (fine due)) in
         record {
-          at = place;
-          size = at.size;
-          blocks = blocks;
           there = subst (λ (names : List (List ℕ)). place.file < length names) now_plan.files
               (ended.there (λ bytes is. absurd (other bytes is)));
           passed = passes_run j s at.size now_plan before now still place.file left.passed;
@@ -517,10 +514,18 @@ module _ {I S F : Type 0} {told : I → Told} {is_open is_calm : I → Type 0} {
       WritesTo told is_calm faults (opens o) (leaves o) f j stream seen after stop
       ⊎ BreaksWriting told is_calm faults (opens o) (leaves o) f j stream seen after stop →
       stop ≡ Some (Run halts.ReadFault) → (before : Told) → (told f.inputs.now).bytes_under ≡ before.bytes_under →
-      FeederRead before (told f.inputs.now) f → BreaksData s (is_calm f.inputs.now) before (told j.inputs.now)
+      FeederRead before (told f.inputs.now) f →
+      BreaksFed block takes leaves s (is_calm f.inputs.now) before (told j.inputs.now) seen after
+  unfolding ends_fed
   all_breaks leave (inl w) failed before same read =
-      breaks_data told is_open is_calm faults block takes opens leaves s one f j o stream at w.kept before same leave
-      read w.blocks w.hands (w.ended ∙ ap Some (failed_reading w.end w.ending stop w.is failed))
+      let fed = ends_fed told is_open is_calm faults block takes opens leaves s one f j o stream at w.kept before same
+      seen after stop w in
+      let left = breaks_data told is_open is_calm faults block takes opens leaves s one f j o stream at w.kept before
+      same leave read w.blocks w.hands (w.ended ∙ ap Some (failed_reading w.end w.ending stop w.is failed)) in
+      let Both : Option (StreamStop F) → Type 0 = λ x. (e : EndsFed block takes leaves s before seen after x)
+      × BreaksData s (is_calm f.inputs.now) before (told j.inputs.now) e.at e.size e.blocks in
+      let both = subst Both failed (fed, left) in
+      record { fed = both.0; read = both.1 }
   all_breaks leave (inr w) failed before same read = absurd (other stop w.is failed)
     where
       other : (stop : Option (StreamStop F)) → stop ≡ Some (Run halts.SinkFault) →

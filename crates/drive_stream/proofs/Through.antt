@@ -16,7 +16,7 @@ use Rattle.drive_stream.specs.declared.stop.StreamStop.{StreamStop}
 use Rattle.drive_stream.specs.declared.stop.StreamStop.TheVariants.{Run, Refused}
 use Rattle.drive_stream.specs.Endings.{Ending}
 use Rattle.drive_stream.specs.Opening.{LeavesBefore}
-use Rattle.drive_stream.specs.Outcome.{BreaksData, EndsStream, LeavesInputs, ReadsHead, ReadsRefused, SaysBefore}
+use Rattle.drive_stream.specs.Outcome.{BreaksFed, EndsStream, LeavesInputs, ReadsHead, ReadsRefused, SaysBefore}
 
 module _ {F : Type 0} (block : Observation → ℕ) (takes : Observation → HeaderText → Type 0)
     (refuses : Observation → HeaderText → F → Type 0)
@@ -59,55 +59,66 @@ module _ {I : Type 0} (told : I → Told) (is_calm : I → Type 0) (faults : I �
 -- ---- what was read
 
 -- no file was opened, as there was no memory
-pub left_unread : {F : Type 0} (s : RunSeen) (is_calm : Type 0) (told : Told) →
-    LeavesInputs {F = F} s is_calm told told (Some (Run halts.Memory))
-left_unread s is_calm told = record { unread = λ is. inl refl; broken = λ is. absurd cc }
+pub left_unread : {F : Type 0} (block : Observation → ℕ) (takes : Observation → HeaderText → Type 0)
+    (leaves : Observation → HeaderText → List ℕ → Ending F → SinkSeen → SinkSeen → Type 0) (s : RunSeen)
+    (is_calm : Type 0) (told : Told) (seen : SinkSeen) →
+    LeavesInputs block takes leaves s is_calm told told seen seen (Some (Run halts.Memory))
+left_unread block takes leaves s is_calm told seen = record { unread = λ is. inl refl; broken = λ is. absurd cc }
 
 run_same : {F : Type 0} (stop : StreamStop F) (a b : Stop) → stop ≡ Run a → Some stop ≡ Some (Run b) → a ≡ b
 run_same stop a b here is = cc
 
-pub left_early : {I F : Type 0} (told : I → Told) (is_calm : I → Type 0) (s : RunSeen) (old start new : I)
-    (stop : StreamStop F) → start ≡ old → LeavesBefore s (is_calm start) (told start) (told new) stop →
-    LeavesInputs s (is_calm old) (told old) (told new) (Some stop)
-left_early {I} {F} told is_calm s old start new stop same left =
-    let P : I → Type 0 = λ i. LeavesInputs s (is_calm i) (told i) (told new) (Some stop) in
+pub left_early : {I F : Type 0} (told : I → Told) (is_calm : I → Type 0) (block : Observation → ℕ)
+    (takes : Observation → HeaderText → Type 0)
+    (leaves : Observation → HeaderText → List ℕ → Ending F → SinkSeen → SinkSeen → Type 0) (s : RunSeen)
+    (old start new : I) (seen : SinkSeen) (stop : StreamStop F) → start ≡ old →
+    LeavesBefore s (is_calm start) (told start) (told new) stop →
+    LeavesInputs block takes leaves s (is_calm old) (told old) (told new) seen seen (Some stop)
+left_early {I} {F} told is_calm block takes leaves s old start new seen stop same left =
+    let P : I → Type 0 = λ i.
+    LeavesInputs block takes leaves s (is_calm i) (told i) (told new) seen seen (Some stop) in
     subst P same (by stop left)
   where
     by : (stop : StreamStop F) → LeavesBefore s (is_calm start) (told start) (told new) stop →
-        LeavesInputs s (is_calm start) (told start) (told new) (Some stop)
+        LeavesInputs block takes leaves s (is_calm start) (told start) (told new) seen seen (Some stop)
     by (Run stop) left = record {
       unread = λ is. inr (left.unread (run_same (Run stop) stop halts.Memory refl is));
-      broken = λ is. inl (left.broke (run_same (Run stop) stop halts.ReadFault refl is));
+      broken = λ is. inl (left.broke (run_same (Run stop) stop halts.ReadFault refl is), refl);
     }
     by (Refused refusal) left = record { unread = λ is. absurd cc; broken = λ is. absurd cc }
 
-pub left_broken : {I F : Type 0} (told : I → Told) (is_calm : I → Type 0) (faults : I → ℕ) (s : RunSeen)
-    (old start mid new : I) (failed : Type 0) (stop : Option (StreamStop F)) → start ≡ old →
+pub left_broken : {I F : Type 0} (told : I → Told) (is_calm : I → Type 0) (faults : I → ℕ)
+    (block : Observation → ℕ) (takes : Observation → HeaderText → Type 0)
+    (leaves : Observation → HeaderText → List ℕ → Ending F → SinkSeen → SinkSeen → Type 0) (s : RunSeen)
+    (seen after : SinkSeen) (old start mid new : I) (failed : Type 0) (stop : Option (StreamStop F)) → start ≡ old →
     HasReadFrom told is_calm faults failed start mid → (stop ≡ Some (Run halts.Memory) → ⊥) →
     (f : Feeder I) →
     (stop ≡ Some (Run halts.ReadFault) → (told mid).bytes_under ≡ (told old).bytes_under →
-    FeederRead (told old) (told mid) f → BreaksData s (is_calm mid) (told old) (told new)) →
+    FeederRead (told old) (told mid) f →
+    BreaksFed block takes leaves s (is_calm mid) (told old) (told new) seen after) →
     FeederRead (told start) (told mid) f →
-    LeavesInputs s (is_calm old) (told old) (told new) stop
-left_broken told is_calm faults s old start mid new failed stop same read memory f broken begins =
+    LeavesInputs block takes leaves s (is_calm old) (told old) (told new) seen after stop
+left_broken told is_calm faults block takes leaves s seen after old start mid new failed stop same read memory f
+    broken begins =
     let Read : _ → Type 0 = λ i. FeederRead (told i) (told mid) f in
     record {
       unread = λ is. absurd (memory is);
       broken = λ is.
           let names = names_through told is_calm faults old start mid failed same read in
-          let b = broken is names (subst Read same begins) in
+          let broke = broken is names (subst Read same begins) in
+          let b = broke.read in
           let calmer : is_calm old → is_calm mid = λ calm. read.calm (subst is_calm (sym same) calm) in
           inr (record {
-            at = b.at;
-            size = b.size;
-            blocks = b.blocks;
-            there = b.there;
-            passed = b.passed;
-            cut = b.cut;
-            stood = b.stood;
-            missing = λ calm. b.missing (calmer calm);
-            shut = λ calm. b.shut (calmer calm);
-            unopened = λ calm. b.unopened (calmer calm);
+            fed = broke.fed;
+            read = record {
+              there = b.there;
+              passed = b.passed;
+              cut = b.cut;
+              stood = b.stood;
+              missing = λ calm. b.missing (calmer calm);
+              shut = λ calm. b.shut (calmer calm);
+              unopened = λ calm. b.unopened (calmer calm);
+            };
           });
     }
 

@@ -144,13 +144,11 @@ EndsStream block takes refuses leaves s told before after stop =
 
 -- A fault of the inputs came while data were read, at this place, whose file is there. No file before that one stops
 -- the walk, each by the files up to it. By those that were opened, nothing that was read does, and the full blocks of
--- some size are those of the data bytes that were read. Where the file at the place is told too, and the first one, it
+-- this size are those of the data bytes that were read. Where the file at the place is told too, and the first one, it
 -- was not opened or its header isn't judged, or it was read up to the place. Calm inputs could not open it, since it
 -- isn't told: where those before it are, and the first one, these were read to their ends, and nothing else was.
-pub record BreaksData (s : RunSeen) (is_calm : Type 0) (before after : Told) : Type 0 where
-  pub at : Place
-  pub size : ℕ
-  pub blocks : List Entry
+pub record BreaksData (s : RunSeen) (is_calm : Type 0) (before after : Told) (at : Place) (size : ℕ)
+    (blocks : List Entry) : Type 0 where
   pub there : at.file < length s.names
   pub passed : PassesRunTo at.file before s
   pub cut : OfRunTo (opened_at at) before s (λ w. IsCutAt w at size blocks)
@@ -160,6 +158,25 @@ pub record BreaksData (s : RunSeen) (is_calm : Type 0) (before after : Told) : T
   pub shut : is_calm → at.is_open ≡ false
   pub unopened : is_calm → OfRunAt (IsAmong at.file s.starts (length s.names)) before s (λ w.
       IsShut s.names w before after at.transfer at.file at.since)
+
+-- The data ended so, and what was handed out of them is what was read.
+pub record BreaksFed {F : Type 0} (block : Observation → ℕ)
+    (takes : Observation → HeaderText → Type 0)
+    (leaves : Observation → HeaderText → List ℕ → Ending F → SinkSeen → SinkSeen → Type 0)
+    (s : RunSeen) (is_calm : Type 0) (before after : Told) (out_before out_after : SinkSeen) :
+    Type 0 where
+  pub fed : EndsFed block takes leaves s before out_before out_after (Some (Run ReadFault))
+  pub read : BreaksData s is_calm before after fed.at fed.size fed.blocks
+
+-- what a fault of the inputs leaves of them and of the output: it came before the first header was judged, and nothing
+-- was written; or while data were read
+abbrev pub BreaksStream : {F : Type 0} → (Observation → ℕ) →
+    (Observation → HeaderText → Type 0) →
+    (Observation → HeaderText → List ℕ → Ending F → SinkSeen → SinkSeen → Type 0) → RunSeen →
+    Type 0 → Told → Told → SinkSeen → SinkSeen → Type 0
+BreaksStream block takes leaves s is_calm before after out_before out_after =
+    (BreaksFirstAt s.names s.starts is_calm before after × (out_after ≡ out_before))
+    ⊎ BreaksFed block takes leaves s is_calm before after out_before out_after
 
 -- the first header was read, and no byte past it
 abbrev pub ReadsHead : RunSeen → Told → Told → Type 0
@@ -175,10 +192,13 @@ ReadsRefused {F} leaves s before after out_before out_after stop = (refusal : F)
     × OfHead (λ o header. leaves o header bytes (Refused refusal) out_before out_after) w))
 
 -- What was read by then: no file was opened, or the first header was read and no byte past it, if there was no memory;
--- and what a fault of the inputs left, before the first header was judged or while data were read.
-pub record LeavesInputs {F : Type 0} (s : RunSeen) (is_calm : Type 0) (before after : Told)
+-- and what a fault of the inputs left of them and of the output.
+pub record LeavesInputs {F : Type 0} (block : Observation → ℕ)
+    (takes : Observation → HeaderText → Type 0)
+    (leaves : Observation → HeaderText → List ℕ → Ending F → SinkSeen → SinkSeen → Type 0)
+    (s : RunSeen) (is_calm : Type 0) (before after : Told) (out_before out_after : SinkSeen)
     (stop : Option (StreamStop F)) : Type 0 where
   pub unread : stop ≡ Some (Run Memory) →
       (after ≡ before) ⊎ ReadsHead s before after
   pub broken : stop ≡ Some (Run ReadFault) →
-      BreaksFirstAt s.names s.starts is_calm before after ⊎ BreaksData s is_calm before after
+      BreaksStream block takes leaves s is_calm before after out_before out_after

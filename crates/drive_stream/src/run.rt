@@ -6,7 +6,7 @@ ghost use Rattle.search_words.specs.Settings.{RunInRange, run_seen};
 ghost use Rattle.disk_feeder.specs.Feeder.{FeederRead};
 ghost use Rattle.disk_feeder.specs.Filling.{HoldsAll};
 ghost use Rattle.drive_stream.specs.Opening.{IsOfOne, IsOpened};
-ghost use Rattle.drive_stream.specs.Outcome.{BreaksData, EndsStream, LeavesInputs, ReadsRefused};
+ghost use Rattle.drive_stream.specs.Outcome.{BreaksFed, EndsStream, LeavesInputs, ReadsRefused};
 
 use crate::lent::{Lent, give_back};
 use crate::open::{Opened, open};
@@ -50,8 +50,9 @@ fn stream_all<'a, R: Wait, I: Inputs, K: Sink, T: Streaming>(
     ensures broken { result ≡ Some (StreamStop.Run Stop.ReadFault) → (before : Told)
         → (I.told feeder.old.inputs.now).bytes_under ≡ before.bytes_under
         → FeederRead before (I.told feeder.old.inputs.now) feeder.old
-        → BreaksData (run_seen run.now) (I.is_calm feeder.old.inputs.now) before
-        (I.told feeder.new.inputs.now) }
+        → BreaksFed (T.block task.now) (T.takes task.now) (T.leaves task.now)
+        (run_seen run.now) (I.is_calm feeder.old.inputs.now) before
+        (I.told feeder.new.inputs.now) (K.seen out.old) (K.seen out.new) }
     ensures refused { (before : Told)
         → (I.told feeder.old.inputs.now).bytes_under ≡ before.bytes_under
         → ReadsRefused (T.leaves task.now) (run_seen run.now) before
@@ -88,8 +89,9 @@ fn within<'a, R: Wait, I: Inputs, K: Sink, T: Streaming>(
     ensures ends { EndsStream (T.block task.now) (T.takes task.now) (T.refuses task.now)
         (T.leaves task.now) (run_seen run.now) (I.told inputs.old) (K.seen out.old)
         (K.seen out.new) result.done }
-    ensures leaves { LeavesInputs (run_seen run.now) (I.is_calm inputs.old) (I.told inputs.old)
-        (I.told result.inputs.now) result.done }
+    ensures leaves { LeavesInputs (T.block task.now) (T.takes task.now) (T.leaves task.now)
+        (run_seen run.now) (I.is_calm inputs.old) (I.told inputs.old)
+        (I.told result.inputs.now) (K.seen out.old) (K.seen out.new) result.done }
     ensures refused { ReadsRefused (T.leaves task.now) (run_seen run.now) (I.told inputs.old)
         (I.told result.inputs.now) (K.seen out.old) (K.seen out.new) result.done }
 {
@@ -145,8 +147,9 @@ pub fn drive_stream<R: Wait, I: Inputs, K: Sink, T: Streaming>(
     ensures ends { EndsStream (T.block task.now) (T.takes task.now) (T.refuses task.now)
         (T.leaves task.now) (run_seen run.now) (I.told inputs.old) (K.seen out.old)
         (K.seen out.new) result }
-    ensures leaves { LeavesInputs (run_seen run.now) (I.is_calm inputs.old) (I.told inputs.old)
-        (I.told inputs.new) result }
+    ensures leaves { LeavesInputs (T.block task.now) (T.takes task.now) (T.leaves task.now)
+        (run_seen run.now) (I.is_calm inputs.old) (I.told inputs.old) (I.told inputs.new)
+        (K.seen out.old) (K.seen out.new) result }
     ensures refused { ReadsRefused (T.leaves task.now) (run_seen run.now) (I.told inputs.old)
         (I.told inputs.new) (K.seen out.old) (K.seen out.new) result }
 {

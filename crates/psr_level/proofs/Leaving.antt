@@ -8,7 +8,7 @@ use Rattle.stream_model.specs.WalkLaws.{AreWalked}
 use Rattle.run_stop.specs.declared.stop.Stop.{Stop}
 use Rattle.run_stop.specs.declared.stop.Stop.TheVariants as halts
 use Rattle.run_stop.specs.Ends.{StatusesSayStops}
-use Rattle.run_stop.specs.Firsts.{BreaksFirstAt, ReadsFirsts}
+use Rattle.run_stop.specs.Firsts.{ReadsFirsts}
 use Rattle.run_stop.specs.Runs.{stream_for}
 use Rattle.run_stop.specs.Texts.{status_of}
 use Rattle.search_opening.specs.Settings.{OfRunFirsts}
@@ -17,7 +17,7 @@ use Rattle.level_words.specs.declared.fault.LevelFault.TheVariants as faults
 use Rattle.level_words.specs.Settings.{LevelSeen, SayLevel}
 use Rattle.drive_stream.specs.Endings.{Refused}
 use Rattle.drive_stream.specs.Laws.{IsFromOutside, RefusalsAreAnswered}
-use Rattle.drive_stream.specs.Outcome.{BreaksData, LeavesInputs, OfHead, ReadsHead}
+use Rattle.drive_stream.specs.Outcome.{BreaksStream, LeavesInputs, OfHead, ReadsHead}
 use Rattle.drive_stream.specs.Outcome as streamed
 use Rattle.drive_stream.specs.declared.stop.StreamStop.{StreamStop}
 use Rattle.drive_stream.specs.declared.stop.StreamStop.TheVariants as stream
@@ -105,16 +105,18 @@ reads_refused s answered range one before after out_before out_after o ends read
     by w read (inr out) = inr out
 
 pub leaves_files : StatusesSayStops → (words : List (List ℕ)) (t : LevelSeen) → SayLevel words t → (is_calm : Type 0)
-    (before after : Told) (o : Option (StreamStop LevelRefusal)) (status : ℕ) → status ≡ stream_status o →
-    LeavesInputs t.run is_calm before after o → ReadsRefused t before after o →
-    LeavesFiles words is_calm before after status
-leaves_files say words t one is_calm before after o status same left reads =
+    (before after : Told) (out_before out_after : SinkSeen) (o : Option (StreamStop LevelRefusal)) (status : ℕ) →
+    status ≡ stream_status o →
+    LeavesInputs level_block (CanLevel t) (Leaves t) t.run is_calm before after out_before out_after o →
+    ReadsRefused t before after o →
+    LeavesFiles words is_calm before after out_before out_after status
+leaves_files say words t one is_calm before after out_before out_after o status same left reads =
     let First : LevelSeen → Type 0 = λ s. ReadsHead s.run before after in
     let Refused_by : LevelSeen → Type 0 = λ s. OfRunFirsts before s.run (λ w. AreWalked w →
     (refusal : LevelRefusal) → OfHead (λ p header. Refuses s p header refusal) w →
     ReadsFirsts s.run.names w before after) in
-    let Broke : LevelSeen → Type 0 = λ s. BreaksFirstAt s.run.names s.run.starts is_calm before after
-    ⊎ BreaksData s.run is_calm before after in
+    let Broke : LevelSeen → Type 0 = λ s.
+    BreaksStream level_block (CanLevel s) (Leaves s) s.run is_calm before after out_before out_after in
     record {
       unread = λ is. by_read First (left.unread (five say o (sym same ∙ is)));
       masked = λ is s says. let refused = twelve say o (sym same ∙ is) in
@@ -135,9 +137,10 @@ leaves_files say words t one is_calm before after o status same left reads =
     inside is (inr out) = absurd (not_three o out is)
 
 -- words that say no settings open no file
-pub leaves_unread : (words : List (List ℕ)) (is_calm : Type 0) (told : Told) (fault : LevelFault) (status : ℕ) →
-    status ≡ end_status (Some (stop_of_words fault)) → LeavesFiles words is_calm told told status
-leaves_unread words is_calm told fault status same = record {
+pub leaves_unread : (words : List (List ℕ)) (is_calm : Type 0) (told : Told) (seen : SinkSeen) (fault : LevelFault)
+    (status : ℕ) → status ≡ end_status (Some (stop_of_words fault)) →
+    LeavesFiles words is_calm told told seen seen status
+leaves_unread words is_calm told seen fault status same = record {
   unread = λ is. inl refl;
   masked = λ is s says. absurd (two_or_five fault 12 (sym same ∙ is) (λ e. omega (arith, e)) (λ e. omega (arith, e)));
   refused = λ is s says. absurd (two_or_five fault 3 (sym same ∙ is) (λ e. omega (arith, e)) (λ e. omega (arith, e)));

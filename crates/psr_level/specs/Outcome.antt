@@ -5,7 +5,7 @@ use Rattle.psr_base.specs.Told.{Told, InputsSeen}
 use Rattle.psr_base.specs.Written.{SinkSeen, Noted}
 use Rattle.run_stop.specs.declared.stop.Stop.TheVariants.{ReadFault}
 use Rattle.run_stop.specs.Ends.{CountsFaults}
-use Rattle.run_stop.specs.Firsts.{BreaksFirstAt, ReadsFirsts}
+use Rattle.run_stop.specs.Firsts.{ReadsFirsts}
 use Rattle.search_opening.specs.Settings.{OfRunFirsts}
 use Rattle.level_words.specs.declared.fault.LevelFault.{LevelFault}
 use Rattle.level_words.specs.Settings.{LevelSeen, SayLevel, ExplainsLevel}
@@ -13,7 +13,7 @@ use Rattle.stream_model.specs.WalkLaws.{AreWalked}
 use Rattle.drive_stream.specs.declared.stop.StreamStop.{StreamStop}
 use Rattle.drive_stream.specs.declared.stop.StreamStop.TheVariants as stream
 use Rattle.drive_stream.specs.Laws.{IsFromOutside}
-use Rattle.drive_stream.specs.Outcome.{BreaksData, EndsStream, OfHead, ReadsHead}
+use Rattle.drive_stream.specs.Outcome.{BreaksStream, EndsStream, OfHead, ReadsHead}
 use Rattle.psr_level.specs.declared.refusal.LevelRefusal.{LevelRefusal}
 use Rattle.psr_level.specs.declared.stop.LevelStop.{LevelStop}
 use Rattle.psr_level.specs.declared.stop.LevelStop.TheVariants.{Run}
@@ -67,10 +67,9 @@ pub record ReadsRefused (s : LevelSeen) (before after : Told)
       ReadsFirsts s.run.names w before after ⊎ IsFromOutside stop)
 
 -- What was read at 5: no file, or the first header and no byte past it; at 12, and at 3 if that header is accepted and
--- refused by the settings, it and no byte past it. And what a fault of the inputs left at 6, before the first header
--- was judged or while data were read.
+-- refused by the settings, it and no byte past it. And what a fault of the inputs left at 6, of them and of the output.
 pub record LeavesFiles (words : List (List ℕ)) (is_calm : Type 0) (before after : Told)
-    (status : ℕ) : Type 0 where
+    (out_before out_after : SinkSeen) (status : ℕ) : Type 0 where
   pub unread : status ≡ 5 → (after ≡ before) ⊎ ((s : LevelSeen) → SayLevel words s →
       ReadsHead s.run before after)
   pub masked : status ≡ 12 → (s : LevelSeen) → SayLevel words s → ReadsHead s.run before after
@@ -78,5 +77,5 @@ pub record LeavesFiles (words : List (List ℕ)) (is_calm : Type 0) (before afte
       OfRunFirsts before s.run (λ w. AreWalked w → (refusal : LevelRefusal) →
       OfHead (λ o header. Refuses s o header refusal) w → ReadsFirsts s.run.names w before after)
   pub broken : status ≡ 6 → (s : LevelSeen) → SayLevel words s →
-      BreaksFirstAt s.run.names s.run.starts is_calm before after
-      ⊎ BreaksData s.run is_calm before after
+      BreaksStream level_block (CanLevel s) (Leaves s) s.run is_calm before after
+      out_before out_after

@@ -8,6 +8,7 @@ ghost use Rattle.level_words.specs.Settings.{LevelInRange, LevelSeen, SayLevel, 
 ghost use Rattle.drive_stream.specs.Outcome.{LeavesInputs};
 ghost use Rattle.psr_level.specs.Complete.{IsComplete};
 ghost use Rattle.psr_level.specs.Files.{ForLevel, level_file};
+ghost use Rattle.psr_level.specs.Levels.{CanLevel, Leaves, level_block};
 ghost use Rattle.psr_level.specs.Notes.{end_status, stop_of_stream};
 ghost use Rattle.psr_level.specs.Outcome.{EndsAtWords, EndsLevel, EndsSettings, LeavesFiles, Outcome, ReadsRefused};
 
@@ -45,8 +46,9 @@ fn stream<R: Wait, I: Inputs, K: Sink>(
         WroteAll (level_file (level_seen settings.now) w) (K.seen out.old) (K.seen out.new)) }
     ensures complete { IsComplete (level_seen settings.now) (I.told inputs.old)
         (end_status (option_map stop_of_stream result)) }
-    ensures leaves { LeavesInputs (level_seen settings.now).run (I.is_calm inputs.old)
-        (I.told inputs.old) (I.told inputs.new) result }
+    ensures leaves { LeavesInputs level_block (CanLevel (level_seen settings.now))
+        (Leaves (level_seen settings.now)) (level_seen settings.now).run (I.is_calm inputs.old)
+        (I.told inputs.old) (I.told inputs.new) (K.seen out.old) (K.seen out.new) result }
     ensures refused { ReadsRefused (level_seen settings.now) (I.told inputs.old)
         (I.told inputs.new) result }
 {
@@ -81,7 +83,8 @@ fn level<R: Wait, I: Inputs, K: Sink>(
     ensures complete { (s : LevelSeen) → SayLevel (map string_bytes words.now) s
         → IsComplete s (I.told inputs.old) (end_status result) }
     ensures leaves { LeavesFiles (map string_bytes words.now) (I.is_calm inputs.old)
-        (I.told inputs.old) (I.told inputs.new) (end_status result) }
+        (I.told inputs.old) (I.told inputs.new) (K.seen out.old) (K.seen out.new)
+        (end_status result) }
 {
     statuses_say_stops();
     match LevelSettings::of(alloc, words) {
@@ -116,7 +119,7 @@ pub fn run_level<R: Wait, I: Inputs, K: Sink, E: Sink>(
     ensures complete { (s : LevelSeen) → SayLevel (map string_bytes words.now) s
         → IsComplete s (I.told inputs.old) result }
     ensures leaves { LeavesFiles (map string_bytes words.now) (I.is_calm inputs.old)
-        (I.told inputs.old) (I.told inputs.new) result }
+        (I.told inputs.old) (I.told inputs.new) (K.seen out.old) (K.seen out.new) result }
 {
     match level(rt, alloc, words, inputs, out) {
         Some(stop) => {

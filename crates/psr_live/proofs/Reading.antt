@@ -3,7 +3,11 @@ use Rattle.std.proofs.Common.{◌≡◌, ◌≢◌, ℕ, Bool, true, false, List
 use Rattle.std.specs.Prelude.{IsSome, if◌then◌else◌}
 use Rattle.std.specs.Str.{bytes_eq}
 use Rattle.psr_base.specs.Told.{Told, OfFile, BreaksOff}
+use Rattle.psr_base.specs.Written.{SinkSeen}
+use Rattle.dada_model.specs.Fields.{HeaderText}
+use Rattle.dada_model.specs.Observation.{Observation}
 use Rattle.search_model.specs.Parts.{check_line}
+use Rattle.search_model.specs.Plan.{plan_refusal}
 use Rattle.search_words.specs.declared.fault.WordFault.{WordFault}
 use Rattle.search_words.specs.declared.fault.WordFault.TheVariants as word
 use Rattle.search_words.specs.Settings.{SettingsSeen, with_search}
@@ -17,7 +21,8 @@ use Rattle.run_stop.specs.Conversions.{stop_of_words}
 use Rattle.run_stop.specs.Firsts.{BreaksFirstAt}
 use Rattle.drive_stream.specs.declared.stop.StreamStop.{StreamStop}
 use Rattle.drive_stream.specs.declared.stop.StreamStop.TheVariants as streamed
-use Rattle.drive_stream.specs.Outcome.{BreaksData, LeavesInputs}
+use Rattle.drive_stream.specs.Endings.{Ending}
+use Rattle.drive_stream.specs.Outcome.{BreaksFed, BreaksStream, LeavesInputs}
 use Rattle.psr_part.specs.declared.stop.CheckpointRefusal.{CheckpointRefusal}
 use Rattle.psr_part.specs.declared.stop.CheckpointRefusal.TheVariants as check_refusal
 use Rattle.psr_part.specs.declared.stop.PartStop.{PartStop}
@@ -29,7 +34,9 @@ use Rattle.psr_live.specs.declared.task.LiveRefusal.{LiveRefusal}
 use Rattle.psr_live.specs.declared.task.LiveRefusal.TheVariants as refusals
 use Rattle.psr_live.specs.Outcome.{GoesOnFrom, SayLive}
 use Rattle.psr_live.specs.Reads.{LeavesAtFault, LeavesFiles, ReadsNoData, ReadsRefused}
+use Rattle.psr_live.specs.Task.{LeavesLive, live_block}
 use Rattle.psr_live.specs.Texts.{stop_of_stream}
+use Rattle.psr_live.specs.Words.{every_in}
 use Rattle.psr_live.proofs.Starting.{refused, to_stream}
 
 -- ---- before CHECK was accepted
@@ -99,16 +106,17 @@ at_refusal words old new (check_refusal.Place place until) read = read
 at_refusal words old new (check_refusal.Beyond place spectra) read = tt
 
 -- where words say no settings, or CHECK no checkpoint
-pub leaves_at_words : (words : List (List ℕ)) (is_calm : Type 0) (told : Told) (fault : WordFault) (stop : Stop) →
-    stop ≡ stop_of_words fault → LeavesFiles words is_calm told told (Some (Run stop))
-leaves_at_words words is_calm told fault stop is = record {
+pub leaves_at_words : (words : List (List ℕ)) (is_calm : Type 0) (told : Told) (seen : SinkSeen) (fault : WordFault)
+    (stop : Stop) → stop ≡ stop_of_words fault → LeavesFiles words is_calm told told seen seen (Some (Run stop))
+leaves_at_words words is_calm told seen fault stop is = record {
   early = λ _. inl refl;
   broken = λ same. absurd (not_words fault (sym (ap (λ s. Some (Run s)) is) ∙ same));
   refused = λ refusal same. absurd cc;
 }
 
 pub leaves_at_check : {I : Type 0} (told : I → Told) (words : List (List ℕ)) (is_calm : Type 0) (word : List ℕ)
-    (old new : I) (f : CheckpointFault) (stop : PartStop) → stop ≡ stop_of_checkpoint f → word ≡ check_word words →
+    (old new : I) (seen : SinkSeen) (f : CheckpointFault) (stop : PartStop) →
+    stop ≡ stop_of_checkpoint f → word ≡ check_word words →
     (word ≡ new_word → (new ≡ old) × (refused f ≢ refused check.Failed)) →
     (word ≢ new_word → refused f ≢ refused check.Failed →
     OfFile (told old) word (λ file. ReadsFront most_read word file (told old) (told new))) →
@@ -116,12 +124,15 @@ pub leaves_at_check : {I : Type 0} (told : I → Told) (words : List (List ℕ))
     OfFile (told old) word (λ _. BreaksOff most_read word (told old) (told new))) →
     (is_calm → IsSome (named_text (told old) word) → refused f ≢ refused check.Failed) →
     (told new).bytes_under ≡ (told old).bytes_under →
-    LeavesFiles words is_calm (told old) (told new) (Some stop)
-leaves_at_check told words is_calm word old new f stop is same none front broke serves names = record {
+    LeavesFiles words is_calm (told old) (told new) seen seen (Some stop)
+leaves_at_check told words is_calm word old new seen f stop is same none front broke serves names = record {
   early = λ e. absurd (not_memory f (sym (ap Some is) ∙ e));
   broken = λ e.
-      inl (breaks_at_check words is_calm word (told old) (told new) f same (λ e. (none e).1) broke serves
-      (sym (ap Some is) ∙ e));
+      inl (
+        breaks_at_check words is_calm word (told old) (told new) f same (λ e. (none e).1) broke serves
+            (sym (ap Some is) ∙ e),
+        refl,
+      );
   refused = λ refusal e.
       let read = refusal_read f refusal (sym (ap Some is) ∙ e) in
       at_refusal words (told old) (told new) refusal
@@ -148,24 +159,31 @@ module _ (s : SettingsSeen) (calm calm' : Type 0) (stays : calm → calm') (befo
     unopened = λ c. b.unopened (stays c);
   }
 
-  data_stays : BreaksData (with_search tt s) calm' before after → BreaksData (with_search tt s) calm before after
-  data_stays b = record {
-    at = b.at;
-    size = b.size;
-    blocks = b.blocks;
-    there = b.there;
-    passed = b.passed;
-    cut = b.cut;
-    stood = b.stood;
-    missing = λ c. b.missing (stays c);
-    shut = λ c. b.shut (stays c);
-    unopened = λ c. b.unopened (stays c);
+  fed_stays : (takes : Observation → HeaderText → Type 0)
+      (leaves : Observation → HeaderText → List ℕ → Ending LiveRefusal → SinkSeen → SinkSeen → Type 0)
+      (out_before out_after : SinkSeen) →
+      BreaksFed live_block takes leaves (with_search tt s) calm' before after out_before out_after →
+      BreaksFed live_block takes leaves (with_search tt s) calm before after out_before out_after
+  fed_stays takes leaves out_before out_after b = record {
+    fed = b.fed;
+    read = record {
+      there = b.read.there;
+      passed = b.read.passed;
+      cut = b.read.cut;
+      stood = b.read.stood;
+      missing = λ c. b.read.missing (stays c);
+      shut = λ c. b.read.shut (stays c);
+      unopened = λ c. b.read.unopened (stays c);
+    };
   }
 
 module _ (words : List (List ℕ)) (s : SettingsSeen) (says : SayLive words s) (from : Checkpoint)
     (calm calm' : Type 0) (stays : calm → calm') (old mid new : Told) (goes : GoesOnFrom old words from)
-    (read : ReadsCheck words old mid) (stop : Option (StreamStop LiveRefusal))
-    (leaves : LeavesInputs (with_search tt s) calm' mid new stop) where
+    (read : ReadsCheck words old mid) (every : ℕ) (every_is : every_in words ≡ every) (before after : SinkSeen)
+    (stop : Option (StreamStop LiveRefusal))
+    (leaves : LeavesInputs live_block (λ o header. plan_refusal o s.search ≡ None) (λ o header bytes ending start now.
+    LeavesLive o (record { search = s.search; every = every; from = from }) bytes ending start now) (with_search tt s)
+    calm' mid new before after stop) where
   no_data : stop_of_stream stop ≡ Some (Run Memory) → ReadsNoData words old new
   no_data is = inr (record {
     settings = s;
@@ -177,7 +195,17 @@ module _ (words : List (List ℕ)) (s : SettingsSeen) (says : SayLive words s) (
     holds = leaves.unread (to_memory stop is);
   })
 
-  at_fault : stop_of_stream stop ≡ Some (Run ReadFault) → LeavesAtFault words calm old new
+  abbrev Takes : Observation → HeaderText → Type 0
+  Takes o header = plan_refusal o s.search ≡ None
+
+  abbrev Leaves : ℕ → Observation → HeaderText → List ℕ → Ending LiveRefusal → SinkSeen → SinkSeen → Type 0
+  Leaves n o header bytes ending start now =
+      LeavesLive o (record { search = s.search; every = n; from = from }) bytes ending start now
+
+  abbrev Left : ℕ → Type 0
+  Left n = BreaksStream live_block Takes (Leaves n) (with_search tt s) calm mid new before after
+
+  at_fault : stop_of_stream stop ≡ Some (Run ReadFault) → LeavesAtFault words calm old new before after
   at_fault is = inr (record {
     settings = s;
     says = says;
@@ -185,11 +213,12 @@ module _ (words : List (List ℕ)) (s : SettingsSeen) (says : SayLive words s) (
     accepted = goes;
     told = mid;
     read = read;
-    holds = elim (leaves.broken (to_stream stop is)) [
-      | inl first ↦ inl (first_stays s calm calm' stays mid new first)
-      | inr later ↦ inr (data_stays s calm calm' stays mid new later)
-    ];
+    holds = subst Left (sym every_is) (by (leaves.broken (to_stream stop is)));
   })
+    where
+      by : BreaksStream live_block Takes (Leaves every) (with_search tt s) calm' mid new before after → Left every
+      by (inl first) = inl (first_stays s calm calm' stays mid new first.0, first.1)
+      by (inr later) = inr (fed_stays s calm calm' stays mid new Takes (Leaves every) before after later)
 
   at_end : (refusal : CheckpointRefusal) → (end : Option (StreamStop LiveRefusal)) →
       stop_of_stream end ≡ Some (Refused refusal) → ReadsRefused words old new refusal
@@ -200,7 +229,7 @@ module _ (words : List (List ℕ)) (s : SettingsSeen) (says : SayLive words s) (
       let e : refusal ≡ check_refusal.Beyond place spectra = cc in subst (ReadsRefused words old new) (sym e) tt
 
   pub leaves_streamed : (result : Option PartStop) → result ≡ stop_of_stream stop →
-      LeavesFiles words calm old new result
+      LeavesFiles words calm old new before after result
   leaves_streamed result is = record {
     early = λ e. no_data (sym is ∙ e);
     broken = λ e. at_fault (sym is ∙ e);

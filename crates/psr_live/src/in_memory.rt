@@ -33,7 +33,8 @@ pub fn run_live_in_memory<R: Wait>(
     ensures refused { result ≡ 13 → NotesRefusal (map string_bytes words.now)
         (told_of inputs.old) (told_of inputs.new) (sink_seen notes.old) (sink_seen notes.new) }
     ensures broken { result ≡ 6 → LeavesAtFault (map string_bytes words.now)
-        ((calls_of inputs.old).fail ≡ []) (told_of inputs.old) (told_of inputs.new) }
+        ((calls_of inputs.old).fail ≡ []) (told_of inputs.old) (told_of inputs.new)
+        (sink_seen out.old) (sink_seen out.new) }
 {
     run_live(rt, alloc, words, inputs, out, notes)
 }

@@ -49,7 +49,8 @@ pub fn run_live<R: Wait, I: Inputs, K: Sink, E: Sink>(
     ensures refused { result ≡ 13 → NotesRefusal (map string_bytes words.now)
         (I.told inputs.old) (I.told inputs.new) (E.seen notes.old) (E.seen notes.new) }
     ensures broken { result ≡ 6 → LeavesAtFault (map string_bytes words.now)
-        (I.is_calm inputs.old) (I.told inputs.old) (I.told inputs.new) }
+        (I.is_calm inputs.old) (I.told inputs.old) (I.told inputs.new) (K.seen out.old)
+        (K.seen out.new) }
 {
     bytes_are_joined();
     words_say_once();
@@ -73,7 +74,7 @@ fn search<R: Wait, I: Inputs, K: Sink>(
         })
         (I.is_calm inputs.old) (K.seen out.old) (K.seen out.new) result }
     ensures leaves { LeavesFiles (map string_bytes words.now) (I.is_calm inputs.old)
-        (I.told inputs.old) (I.told inputs.new) result }
+        (I.told inputs.old) (I.told inputs.new) (K.seen out.old) (K.seen out.new) result }
 {
     let LiveWords { every, settings } = match live_words(alloc, words) {
         Ok(said) => said,

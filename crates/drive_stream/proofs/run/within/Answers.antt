@@ -35,28 +35,40 @@ returns-in-Ok-open-clause-ends g c =
 
 pub returns-in-Err-clause-leaves : goal.returns-in-Err-clause-leaves
 returns-in-Err-clause-leaves g c =
-    left_unread (run_seen c.args.run.now) (g.I.Inputs.is_calm c.args.inputs.now) (g.I.Inputs.told c.args.inputs.now)
+    let t = g.T.Streaming in
+    left_unread (t.block c.args.task.now) (t.takes c.args.task.now) (t.leaves c.args.task.now)
+    (run_seen c.args.run.now) (g.I.Inputs.is_calm c.args.inputs.now) (g.I.Inputs.told c.args.inputs.now)
+    (g.K.Sink.seen c.args.out.now)
 
 pub returns-in-Err-open-clause-leaves : goal.returns-in-Err-open-clause-leaves
 returns-in-Err-open-clause-leaves g c =
+    let t = g.T.Streaming in
     let i = g.I.Inputs in
-    let P : _ → Type 0 = λ n. LeavesInputs (run_seen c.args.run.now) (i.is_calm c.args.inputs.now)
-    (i.told c.args.inputs.now) (i.told n) (Some c.in-Err-open.stop) in
+    let seen = g.K.Sink.seen c.args.out.now in
+    let P : _ → Type 0 = λ n.
+    LeavesInputs (t.block c.args.task.now) (t.takes c.args.task.now) (t.leaves c.args.task.now)
+    (run_seen c.args.run.now) (i.is_calm c.args.inputs.now) (i.told c.args.inputs.now) (i.told n) seen seen
+    (Some c.in-Err-open.stop) in
     subst P (sym c.close-in-Err-open.ensures.inputs)
-    (left_early i.told i.is_calm (run_seen c.args.run.now) c.args.inputs.now c.over-feeder.result.inputs.now
-    c.open.new.feeder.inputs.now c.in-Err-open.stop c.over-feeder.ensures.inputs
-    c.in-Err-open.ensures.leaves)
+    (left_early i.told i.is_calm (t.block c.args.task.now) (t.takes c.args.task.now) (t.leaves c.args.task.now)
+    (run_seen c.args.run.now) c.args.inputs.now c.over-feeder.result.inputs.now c.open.new.feeder.inputs.now seen
+    c.in-Err-open.stop c.over-feeder.ensures.inputs c.in-Err-open.ensures.leaves)
 
 pub returns-in-Ok-open-clause-leaves : goal.returns-in-Ok-open-clause-leaves
 returns-in-Ok-open-clause-leaves g c =
+    let t = g.T.Streaming in
     let i = g.I.Inputs in
-    let P : _ → Type 0 = λ n. LeavesInputs (run_seen c.args.run.now) (i.is_calm c.args.inputs.now)
-    (i.told c.args.inputs.now) (i.told n) c.stream_all-done.result in
+    let seen = g.K.Sink.seen in
+    let P : _ → Type 0 = λ n.
+    LeavesInputs (t.block c.args.task.now) (t.takes c.args.task.now) (t.leaves c.args.task.now)
+    (run_seen c.args.run.now) (i.is_calm c.args.inputs.now) (i.told c.args.inputs.now) (i.told n)
+    (seen c.args.out.now) (seen c.stream_all-done.new.out) c.stream_all-done.result in
     subst P (sym c.close.ensures.inputs)
-    (left_broken i.told i.is_calm i.faults (run_seen c.args.run.now) c.args.inputs.now c.over-feeder.result.inputs.now
-    c.open.new.feeder.inputs.now c.stream_all-done.new.feeder.inputs.now _ c.stream_all-done.result
-    c.over-feeder.ensures.inputs c.open.ensures.inputs c.stream_all-done.ensures.memory
-    c.open.new.feeder
+    (left_broken i.told i.is_calm i.faults (t.block c.args.task.now) (t.takes c.args.task.now)
+    (t.leaves c.args.task.now) (run_seen c.args.run.now) (seen c.args.out.now) (seen c.stream_all-done.new.out)
+    c.args.inputs.now c.over-feeder.result.inputs.now c.open.new.feeder.inputs.now
+    c.stream_all-done.new.feeder.inputs.now _ c.stream_all-done.result c.over-feeder.ensures.inputs
+    c.open.ensures.inputs c.stream_all-done.ensures.memory c.open.new.feeder
     (λ failed same read. c.stream_all-done.ensures.broken failed (i.told c.args.inputs.now) same read)
     c.in-Ok-open.ensures.opened.reads)
 

@@ -52,8 +52,8 @@ returns-in-Some-clause-leaves g c =
     let i = g.I.Inputs in
     leaves_files c.statuses_say_stops.ensures (map string_bytes c.args.words.now) (level_seen c.in-Ok.settings)
     c.in-Ok.ensures.says (i.is_calm c.args.inputs.now) (i.told c.args.inputs.now) (i.told c.stream.new.inputs)
-    c.stream.result (end_status (Some c.of_stream.result))
-    (ap end_status (ap (λ (x : LevelStop). Some x) c.of_stream.ensures
+    (g.K.Sink.seen c.args.out.now) (g.K.Sink.seen c.stream.new.out) c.stream.result
+    (end_status (Some c.of_stream.result)) (ap end_status (ap (λ (x : LevelStop). Some x) c.of_stream.ensures
     ∙ sym (ap (option_map stop_of_stream) c.in-Some.is))) c.stream.ensures.leaves c.stream.ensures.refused
 
 pub returns-in-Ok-clause-leaves : goal.returns-in-Ok-clause-leaves
@@ -61,12 +61,13 @@ returns-in-Ok-clause-leaves g c =
     let i = g.I.Inputs in
     leaves_files c.statuses_say_stops.ensures (map string_bytes c.args.words.now) (level_seen c.in-Ok.settings)
     c.in-Ok.ensures.says (i.is_calm c.args.inputs.now) (i.told c.args.inputs.now) (i.told c.stream.new.inputs)
-    c.stream.result 0 (sym (ap end_status (ap (option_map stop_of_stream) c.in-None.is)))
+    (g.K.Sink.seen c.args.out.now) (g.K.Sink.seen c.stream.new.out) c.stream.result 0
+    (sym (ap end_status (ap (option_map stop_of_stream) c.in-None.is)))
     c.stream.ensures.leaves c.stream.ensures.refused
 
 pub returns-clause-leaves : goal.returns-clause-leaves
 returns-clause-leaves g c =
     let i = g.I.Inputs in
     leaves_unread (map string_bytes c.args.words.now) (i.is_calm c.args.inputs.now) (i.told c.args.inputs.now)
-    c.in-Err.fault (end_status (Some c.of_words.result))
+    (g.K.Sink.seen c.args.out.now) c.in-Err.fault (end_status (Some c.of_words.result))
     (ap end_status (ap (λ (x : LevelStop). Some x) c.of_words.ensures))

@@ -43,5 +43,6 @@ pub returns-in-Some-clause-leaves : goal.returns-in-Some-clause-leaves
 returns-in-Some-clause-leaves g c =
     let i = g.I.Inputs in
     let P : ℕ → Type 0 = λ n. LeavesFiles (map string_bytes c.args.words.now) (i.is_calm c.args.inputs.now)
-    (i.told c.args.inputs.now) (i.told c.level.new.inputs) n in
+    (i.told c.args.inputs.now) (i.told c.level.new.inputs) (g.K.Sink.seen c.args.out.now)
+    (g.K.Sink.seen c.level.new.out) n in
     subst P (ap end_status c.in-Some.is ∙ sym c.status.ensures) c.level.ensures.leaves

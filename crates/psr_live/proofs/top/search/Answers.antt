@@ -17,7 +17,8 @@ returns-in-Err-clause-ends g c = inl (record {
 
 pub returns-in-Err-clause-leaves : goal.returns-in-Err-clause-leaves
 returns-in-Err-clause-leaves g c =
-    leaves_at_words (map string_bytes c.args.words.now) _ _ c.in-Err.fault c.of_words.result c.of_words.ensures
+    leaves_at_words (map string_bytes c.args.words.now) _ _ (g.K.Sink.seen c.args.out.now) c.in-Err.fault
+    c.of_words.result c.of_words.ensures
 
 pub returns-in-Err-read_checkpoint-clause-ends : goal.returns-in-Err-read_checkpoint-clause-ends
 returns-in-Err-read_checkpoint-clause-ends g c =
@@ -32,9 +33,9 @@ pub returns-in-Err-read_checkpoint-clause-leaves : goal.returns-in-Err-read_chec
 returns-in-Err-read_checkpoint-clause-leaves g c =
     let read = c.in-Err-read_checkpoint.ensures in
     leaves_at_check g.I.Inputs.told (map string_bytes c.args.words.now) (g.I.Inputs.is_calm c.args.inputs.now)
-    c.check_of.result.now c.args.inputs.now c.read_checkpoint.new.inputs c.in-Err-read_checkpoint.fault
-    c.of_checkpoint.result c.of_checkpoint.ensures c.check_of.ensures read.new read.read read.broke read.serves
-    read.inputs.names
+    c.check_of.result.now c.args.inputs.now c.read_checkpoint.new.inputs (g.K.Sink.seen c.args.out.now)
+    c.in-Err-read_checkpoint.fault c.of_checkpoint.result c.of_checkpoint.ensures c.check_of.ensures read.new read.read
+    read.broke read.serves read.inputs.names
 
 pub returns-clause-ends : goal.returns-clause-ends
 returns-clause-ends g c =
@@ -69,4 +70,5 @@ returns-clause-leaves g c =
     c.args.inputs.now c.read_checkpoint.new.inputs (g.K.Sink.seen c.args.out.now) from read.within.1 read.judged)
     (reads_check told words c.check_of.result.now c.args.inputs.now c.read_checkpoint.new.inputs c.check_of.ensures
     (λ new. (read.new new).0) (λ other. read.read other (λ e. absurd cc)) read.inputs.names)
+    c.in-Ok.said.every c.in-Ok.ensures.every (g.K.Sink.seen c.args.out.now) (g.K.Sink.seen c.drive_stream.new.out)
     c.drive_stream.result c.drive_stream.ensures.leaves c.stop_of_stream.result c.stop_of_stream.ensures
