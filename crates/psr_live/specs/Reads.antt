@@ -44,7 +44,7 @@ ReadsNoData words before after = (after ≡ before) ⊎ AfterCheck words before 
     (after ≡ told) ⊎ OfRunFirsts told s (λ w. ReadsFirsts s.names w told after))
 
 -- A fault of the inputs came before CHECK was judged, and nothing was written; or CHECK was accepted, and it came
--- before the first header was judged, and nothing was written, or while data were read, and the text of those was.
+-- before the first header was judged, and nothing was written, or while data were read, and their text was written.
 abbrev pub LeavesAtFault : List (List ℕ) → Type 0 → Told → Told → SinkSeen → SinkSeen → Type 0
 LeavesAtFault words is_calm before after out_before out_after =
     (BreaksAtCheck words is_calm before after × (out_after ≡ out_before))
