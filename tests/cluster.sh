@@ -10,7 +10,7 @@
 set -u
 export LC_ALL=C
 . "$(dirname "$0")/../bench/common.bash"
-find_programs "${1:-}" psr_make psr_search psr_part
+find_programs "${1:-}" psr_make psr_search psr_part psr_level
 export PSR_SEARCH=${at[psr_search]} PSR_PART=${at[psr_part]}
 PATH=$PATH:/usr/sbin
 engines=(slurmctld slurmd munged sbatch parallel)
@@ -199,7 +199,6 @@ same 'sbatch with a limit that is too low: status' $? 9
 
 # A hunt by each engine: the same texts.
 export PSR_LEVEL=${at[psr_search]%/*}/psr_level
-[ -x "$PSR_LEVEL" ] || PSR_LEVEL=$root/companions/psr_level
 hunted() { # hunted ENGINE WORD ..: hunts by an engine, and compares the texts with those of the first hunt
     local engine=$1
     shift
