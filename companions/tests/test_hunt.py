@@ -193,7 +193,7 @@ def test_stopped_and_gone_on_with(observation: str, tmp_path: Path, monkeypatch:
     said = process.communicate()[1]
     assert process.returncode == -number
     if number != signal.SIGKILL:
-        assert "stopped by SIGTERM; give the same command again to continue" in said
+        assert f"stopped by {number.name}; give the same command again to continue" in said
         left = [path for path in folder.rglob("*") if path.suffix == ".error" or path.name.split(".")[-1].isdigit()]
         assert left == []
     hangs.unlink()
