@@ -4,7 +4,7 @@ ghost use Rattle.std.specs.Prelude.{◌≡◌, None};
 use dada_hdu::{Hdu, HduWriter};
 use disk_feeder::{FeedEnd, FeedTurn, Feeder};
 use psr_base::Inputs;
-use std::thread;
+use session_readers::pause;
 
 /// The feeder of a session, and the pass by which it seals.
 #[derive(Drop)]
@@ -22,7 +22,7 @@ pub struct FeedActor<'a, I> {
 impl<'a, I: Inputs> FeedActor<'a, I> {
     ghost use Rattle.search_session.specs.Feeds.{FeedOn, FeedMoved};
 
-    /// Takes one turn: it seals one block, or finds the ring full and lets other threads run.
+    /// Takes one turn: it seals one block, or finds the ring full and pauses.
     pub fn turn(&mut self, hdu: &Hdu)
         requires on { FeedOn I.told I.is_open hdu.now self.old }
         requires running { self.old.end ≡ None }
@@ -32,7 +32,7 @@ impl<'a, I: Inputs> FeedActor<'a, I> {
         self.turns = self.turns.saturating_add(1);
         match self.part.turn(hdu, &mut self.pass) {
             FeedTurn::Moved => {}
-            FeedTurn::Waiting { .. } => thread::yield_now(),
+            FeedTurn::Waiting { .. } => pause(),
             FeedTurn::Ended(end) => self.end = Some(end),
         }
     }

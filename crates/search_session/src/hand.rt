@@ -11,7 +11,7 @@ use arrayvec::ArrayVec;
 use dada_hdu::Hdu;
 use psr_base::{Files, Inputs};
 use search_model::MOST_SHARDS;
-use session_readers::{RecordActor, ShardActor};
+use session_readers::{RecordActor, ShardActor, pause};
 use std::thread::Threads;
 use std::time::{Clock, Duration};
 use std::{mem, thread};
@@ -26,9 +26,9 @@ const RECORDER: u32 = 8;
 /// looks take longer than a turn of a shard should.
 const LOOKS: u32 = 100_000;
 
-/// After this many looks a hand sleeps before each further one. Until then a look lets other threads run, and takes
-/// about half a microsecond if none wants to: together longer than one of four shards took for a block of half a
-/// million bytes. So hands that wait for each other seldom sleep, and those that wait for a disk do.
+/// After this many looks a hand sleeps before each further one. Until then a look takes about a microsecond: together
+/// longer than one of four shards took for a block of half a million bytes. So hands that wait for each other seldom
+/// sleep, and those that wait for a disk do.
 const LOOKS_AWAKE: u32 = 1000;
 
 /// How many microseconds a hand sleeps before such a look, and the system adds some: a small part of the time that it
@@ -38,7 +38,7 @@ const NAP: u64 = 20;
 // Rests before a look of a hand that waits.
 fn rest<C: Clock>(clock: &C, look: u32) {
     if look < LOOKS_AWAKE {
-        thread::yield_now();
+        pause();
     } else {
         thread::sleep(clock, Duration::from_micros(NAP));
     }

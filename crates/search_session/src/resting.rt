@@ -4,7 +4,7 @@ ghost use Rattle.std.specs.Prelude.{◌≡◌, None};
 use dada_hdu::{Hdu, HduWriter};
 use disk_feeder::{FeedEnd, FeedTurn, FeederSpace};
 use psr_base::Inputs;
-use std::thread;
+use session_readers::pause;
 
 /// The feeder of a session to which inputs are lent at each turn; otherwise it is as `FeedActor`.
 #[derive(Drop)]
@@ -19,7 +19,7 @@ impl<'a> RestingFeed<'a> {
     ghost use Rattle.search_session.specs.Feeds.{FeedOn, FeedMoved};
     ghost use Rattle.search_session.specs.Lone.{feed_over};
 
-    /// Takes one turn: it seals one block, or finds the ring full and lets other threads run.
+    /// Takes one turn: it seals one block, or finds the ring full and pauses.
     fn turn<I: Inputs>(&mut self, inputs: &mut I, hdu: &Hdu)
         requires on { FeedOn I.told I.is_open hdu.now (feed_over inputs.old self.old) }
         requires running { self.old.end ≡ None }
@@ -30,7 +30,7 @@ impl<'a> RestingFeed<'a> {
         self.turns = self.turns.saturating_add(1);
         match self.part.turn(inputs, hdu, &mut self.pass) {
             FeedTurn::Moved => {}
-            FeedTurn::Waiting { .. } => thread::yield_now(),
+            FeedTurn::Waiting { .. } => pause(),
             FeedTurn::Ended(end) => self.end = Some(end),
         }
     }

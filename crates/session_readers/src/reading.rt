@@ -8,10 +8,10 @@ ghost use Rattle.session_readers.specs.Reads.{TriesNext, HasRested};
 ghost use Rattle.session_readers.specs.Shards.{HasMissed, HasFedBlock, IsHereOrRetired, IsRetired};
 
 use crate::bank::Bank;
+use crate::pause::pause;
 use dada_hdu::{Hdu, HduEnded, HduReader, Taken};
-use std::thread;
 
-// Reads the next header and clears it. If there is none, it lets other threads run.
+// Reads the next header and clears it. If there is none, it pauses.
 pub(crate) fn read_header(hdu: &Hdu, reader: &mut HduReader, space: &mut [u8])
     requires reads { ReadsBoth hdu.now reader.old }
     requires room { 65537 ≤ length space.old }
@@ -24,7 +24,7 @@ pub(crate) fn read_header(hdu: &Hdu, reader: &mut HduReader, space: &mut [u8])
         Ok(_taken) => {
             hdu.clear_header(reader);
         }
-        Err(_stop) => thread::yield_now(),
+        Err(_stop) => pause(),
     }
 }
 
@@ -34,7 +34,7 @@ pub(crate) fn read_header(hdu: &Hdu, reader: &mut HduReader, space: &mut [u8])
 // Other readers wait while the block is unpacked, if it ends within the engine's chunk, or while it is copied, if the
 // space is large enough. Otherwise they wait for the engine's whole search of it.
 //
-// If no block can be had (there is none, or another reader holds it), it lets other threads run.
+// If no block can be had (there is none, or another reader holds it), it pauses.
 pub(crate) fn feed_block(
     hdu: &Hdu,
     reader: &mut HduReader,
@@ -84,7 +84,7 @@ fn copy_block(
             Some(taken)
         }
         Err(_stop) => {
-            thread::yield_now();
+            pause();
             None
         }
     }
@@ -106,7 +106,7 @@ fn lend_block(hdu: &Hdu, reader: &mut HduReader, bank: &mut Bank, transfer: usiz
             Some(taken)
         }
         Err(_stop) => {
-            thread::yield_now();
+            pause();
             None
         }
     }

@@ -1,11 +1,11 @@
 //! A recorder that takes turns.
 ghost use Rattle.std.specs.Prelude.{◌≡◌, None, IsSome};
 
+use crate::pause::pause;
 use crate::reading::{has_next, retire};
 use dada_hdu::{Hdu, HduEnded};
 use dada_recorder::{RecordEnd, RecordTurn, Recorder};
 use psr_base::Files;
-use std::thread;
 
 /// The recorder of a session, as one that takes turns.
 #[derive(Drop)]
@@ -24,7 +24,7 @@ impl<'a, F: Files> RecordActor<'a, F> {
     ghost use Rattle.session_readers.specs.Shards.{IsRetired};
     ghost use Rattle.session_readers.specs.Records.{RecordOn, RecordMoved};
 
-    /// Takes one turn: records one block and clears it. If it finds none, it lets other threads run.
+    /// Takes one turn: records one block and clears it. If it finds none, it pauses.
     pub fn turn(&mut self, hdu: &Hdu)
         requires on { RecordOn F.is_open hdu.now self.old }
         requires running { self.old.end ≡ None }
@@ -37,7 +37,7 @@ impl<'a, F: Files> RecordActor<'a, F> {
         };
         match self.part.turn(hdu, reader) {
             RecordTurn::Moved => {}
-            RecordTurn::Waiting(_) => thread::yield_now(),
+            RecordTurn::Waiting(_) => pause(),
             RecordTurn::Ended(end) => self.end = Some(end),
         }
     }

@@ -54,8 +54,7 @@ impl ShardActor {
     ///
     /// A block that ends within the engine's chunk is unpacked where it lies; a full chunk is searched once the block
     /// is cleared. A block that ends past the chunk is copied to the space, if that is large enough, and cleared before
-    /// the engine is fed; otherwise the engine is fed where the block lies. A read that finds nothing lets other
-    /// threads run.
+    /// the engine is fed; otherwise the engine is fed where the block lies. A turn that finds nothing pauses.
     #[tactic(auto, using(crate::proofs::Moves::shard_turned))]
     pub fn turn(&mut self, hdu: &Hdu)
         requires on { ShardOn hdu.now self.old }
