@@ -1,5 +1,5 @@
 -- Where a recorder is once a data block came.
-use Rattle.std.proofs.Common.{◌≡◌, ℕ, zero, suc, ◌+◌, ◌-◌, ◌*◌, ◌^◌, ◌<◌, ◌≤◌, Bool, true, false, List, [], ◌∷◌, ◌++◌, length, refl, sym, ap, ◌∙◌, subst, append-nil, length-append, arith}
+use Rattle.std.proofs.Common.{◌≡◌, ℕ, zero, suc, ◌+◌, ◌-◌, ◌*◌, ◌^◌, ◌<◌, ◌≤◌, Bool, true, false, List, [], ◌∷◌, ◌++◌, length, refl, sym, ap, ◌∙◌, subst, append-nil, length-append, arith, inl}
 use Rattle.std.specs.Prelude.{slice_get, if◌then◌else◌, ◌||◌}
 use Rattle.std.specs.List.{flat_map}
 use Rattle.std.proofs.lemmas.Bool.{true≢false}
@@ -92,7 +92,7 @@ within_limit t headers blocks n header run few =
     let count = within.count in
     record { limit = t.max_bytes; can = within.can; few = omega (arith, few, some, total, count) }
 
-plan_kept : (t : Transfers) (f : TransferFiles) (total : ℕ) → recording_in f ≡ recording_in t.files →
+pub plan_kept : (t : Transfers) (f : TransferFiles) (total : ℕ) → recording_in f ≡ recording_in t.files →
     plan_in (with_data t f total) ≡ plan_in t
 plan_kept t f total kept =
     ap (λ (r : Recording). record {
@@ -151,10 +151,10 @@ data_breaks_off joins counts t f headers blocks block bytes same header run few 
     let ended = ended_more counts blocks block in
     let begun = (has_begun t headers blocks header run).begun in
     subst Broken (sym plan) (record {
-      in_limits = record {
+      limits = inl (record {
         accepted = run.goes_on.in_limits.accepted;
         limit = omega (arith, joined, len, old, few);
-      };
+      });
       begun = omega (arith, begun, ended);
     })
 

@@ -152,7 +152,7 @@ header_breaks_off t f f' headers blocks block none run begun kept =
     let both = length-append headers (block ∷ []) in
     let Broken : RecordPlan → Type 0 = λ p. IsBrokenOff p (headers ++ block ∷ []) blocks in
     subst Broken (sym (same_plan t f' t.has_header size)) (record {
-      in_limits = accepted_with t f headers blocks block none run begun;
+      limits = inl (accepted_with t f headers blocks block none run begun);
       begun = omega (arith, both, count_of);
     })
 

@@ -16,5 +16,6 @@ pub mod Refusals
 pub mod Names
 pub mod Turning
 pub mod OpenFiles
+pub mod LongBlocks
 pub mod Opening
 pub mod WorkedMaking

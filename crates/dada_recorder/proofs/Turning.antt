@@ -17,7 +17,7 @@ use Rattle.dada_recorder.specs.declared.transfers.Transfers.{Transfers}
 use Rattle.dada_recorder.specs.Blocks.{files_of_blocks}
 use Rattle.dada_recorder.specs.Making.{Outset, HasMade, IsOpenAs}
 use Rattle.dada_recorder.specs.Recording.{FilesAre}
-use Rattle.dada_recorder.specs.Transfers.{plan_in, IsRunning, StandsAt, CountsEnd}
+use Rattle.dada_recorder.specs.Transfers.{plan_in, IsRunning, StandsAt, EndsClosed, CountsEnd}
 use Rattle.dada_recorder.specs.Tracks.{HasTurned}
 use Rattle.dada_recorder.specs.Turns.{cleared_headers, cleared_blocks}
 
@@ -92,18 +92,20 @@ module _ {F : Type 0} (files_open : F → Type 0) (seen : F → FilesSeen) (hdu 
     (end : Option RecordEnd) where
   pub has_turned : new.transfers ≡ t → new.end ≡ end → new.block ≡ old.block → cleared_headers pass' ≡ headers →
       cleared_blocks pass' ≡ blocks → ReadsBoth hdu pass' → plan_in t ≡ plan_in old.transfers →
-      (end ≡ None → IsOpenAs t.files.place.is_open (files_open files')) → StandsAt t headers blocks end →
+      (end ≡ None → IsOpenAs t.files.place.is_open (files_open files')) → EndsClosed end (files_open files') →
+      StandsAt t headers blocks end →
       ((outset : Outset) → HasMade outset old.transfers.files.place.is_open
       (files_of_blocks (plan_in old.transfers) (cleared_headers pass) (cleared_blocks pass)) (seen files) →
       FilesAre (plan_in t) outset t.files.place.is_open headers blocks end (seen files')) →
       CountsEnd end (seen files) (seen files') →
       HasTurned files_open seen hdu old files pass new files' pass'
-  has_turned same_t same_e block same_h same_b ring plan is_open stands made faults = record {
+  has_turned same_t same_e block same_h same_b ring plan is_open closed stands made faults = record {
     ring = ring;
     plan = ap plan_in same_t ∙ plan;
     block = block;
     is_open = λ running. subst (λ (s : Transfers). IsOpenAs s.files.place.is_open (files_open files')) (sym same_t)
         (is_open (sym same_e ∙ running));
+    closed = subst (λ (e : Option RecordEnd). EndsClosed e (files_open files')) (sym same_e) closed;
     stands = stands_settled t new.transfers headers (cleared_headers pass') blocks (cleared_blocks pass') end new.end
         same_t same_h same_b same_e stands;
     made = λ outset has. files_settled t new.transfers outset headers (cleared_headers pass') blocks

@@ -10,7 +10,7 @@ use Rattle.dada_recorder.specs.declared.space.RecorderSpace.{RecorderSpace}
 use Rattle.dada_recorder.specs.Blocks.{RecordPlan}
 use Rattle.dada_recorder.specs.Making.{Outset, BeginsAt, IsOpenAs}
 use Rattle.dada_recorder.specs.Recording.{FilesAre, last_file_has_room}
-use Rattle.dada_recorder.specs.Transfers.{plan_in, IsRunning, StandsAt, CountsEnd}
+use Rattle.dada_recorder.specs.Transfers.{plan_in, IsRunning, StandsAt, EndsClosed, CountsEnd}
 use Rattle.dada_recorder.specs.Turns.{cleared_headers, cleared_blocks}
 
 -- what it records of: the offsets of its transfers, and its limits
@@ -72,10 +72,12 @@ pub record IsSameRecorder {F : Type 0} (old new : Recorder F) : Type 0 where
   pub block : block_size new ≡ block_size old
 
 -- What a turn makes of the files. While the recorder goes on, a file is open exactly where the last file of the blocks
--- that were cleared has room. In this: whether a file is open, and what files show.
+-- that were cleared has room; at its end none is, unless a call failed. In this: whether a file is open, and what files
+-- show.
 pub record TurnMakes {F : Type 0} (files_open : F → Type 0) (seen : F → FilesSeen)
     (old : Recorder F) (pass : HduReader) (new : Recorder F) (pass' : HduReader) : Type 0 where
   pub is_open : has_end new ≡ None → IsOpenAs (has_open_file new) (files_open new.files.now)
+  pub closed : EndsClosed (has_end new) (files_open new.files.now)
   pub full : has_end new ≡ None → has_open_file new
       ≡ last_file_has_room (plan_of new) (cleared_headers pass') (cleared_blocks pass')
   pub made : (outset : Outset) →

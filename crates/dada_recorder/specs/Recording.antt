@@ -1,6 +1,6 @@
 -- What a recorder stands for: the blocks that its pass cleared of both rings.
 -- Source: this project's profile.
-use Rattle.std.specs.Prelude.{◌≡◌, ℕ, ◌+◌, ◌-◌, ◌<◌, ◌≤◌, nat_lt, ◌&&◌, Bool, true, false, if◌then◌else◌, List, [], ◌∷◌, ◌++◌, length, Option, Some, None}
+use Rattle.std.specs.Prelude.{◌≡◌, ℕ, ◌+◌, ◌-◌, ◌<◌, ◌≤◌, nat_lt, ◌&&◌, ◌⊎◌, Bool, true, false, if◌then◌else◌, List, [], ◌∷◌, ◌++◌, length, Option, Some, None}
 use Rattle.psr_base.specs.Made.{NamedBytes, FilesSeen}
 use Rattle.ring_blocks.specs.declared.Entry.{Entry}
 use Rattle.stream_model.specs.Blocks.{joined_bytes, ended_transfers, has_cut, transfer_bytes}
@@ -63,9 +63,10 @@ pub record IsTooLong (plan : RecordPlan) (headers blocks : List Entry) (limit : 
   pub many : plan.max_bytes < length (joined_bytes blocks)
   pub limit_is : limit ≡ plan.max_bytes
 
--- a call on the files failed
+-- a call on the files failed: for a block that is recorded, or at the end of the last file where there are too many
+-- bytes
 pub record IsBrokenOff (plan : RecordPlan) (headers blocks : List Entry) : Type 0 where
-  pub in_limits : AreInLimits plan headers blocks
+  pub limits : AreInLimits plan headers blocks ⊎ IsTooLong plan headers blocks plan.max_bytes
   pub begun : length headers ≤ ended_transfers blocks + 1
 
 -- Where a recorder that cleared these blocks is: it goes on, or why it ended. A fault of the files
@@ -101,16 +102,16 @@ pub record LacksHeader (plan : RecordPlan) (outset : Outset) (headers blocks : L
   pub headers_are : headers ≡ before ++ last ∷ []
   pub made : HasMade outset false (files_of_blocks plan before blocks) seen
 
-pub record LacksBlock (plan : RecordPlan) (outset : Outset) (is_open : Bool)
-    (headers blocks : List Entry) (seen : FilesSeen) : Type 0 where
+pub record LacksBlock (plan : RecordPlan) (outset : Outset) (headers blocks : List Entry)
+    (seen : FilesSeen) : Type 0 where
   pub before : List Entry
   pub last : Entry
   pub blocks_are : blocks ≡ before ++ last ∷ []
-  pub made : HasMade outset is_open (files_of_blocks plan headers before) seen
+  pub made : HasMade outset false (files_of_blocks plan headers before) seen
 
--- What the files tell since the outset: the files of the blocks, all of them finished at the end of the stream. At a
--- fault it is a front of any files that those are a front of. A header block that is refused, and a data block that
--- passes the limit, left nothing.
+-- What the files tell since the outset: the files of the blocks, all of them finished at an end. At a fault it is a
+-- front of any files that those are a front of. A header block that is refused, and a data block that passes the limit,
+-- left nothing.
 abbrev pub FilesAre : RecordPlan → Outset → Bool → List Entry → List Entry → Option RecordEnd →
     FilesSeen → Type 0
 FilesAre plan outset is_open headers blocks None seen =
@@ -125,4 +126,4 @@ FilesAre plan outset is_open headers blocks (Some FileFault) seen =
 FilesAre plan outset is_open headers blocks (Some (BadHeader fault)) seen =
     LacksHeader plan outset headers blocks seen
 FilesAre plan outset is_open headers blocks (Some (TooLong limit)) seen =
-    LacksBlock plan outset is_open headers blocks seen
+    LacksBlock plan outset headers blocks seen

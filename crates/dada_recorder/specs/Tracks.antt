@@ -9,7 +9,7 @@ use Rattle.dada_recorder.specs.declared.track.Track.{Track}
 use Rattle.dada_recorder.specs.Blocks.{files_of_blocks}
 use Rattle.dada_recorder.specs.Making.{Outset, HasMade, IsOpenAs}
 use Rattle.dada_recorder.specs.Recording.{FilesAre}
-use Rattle.dada_recorder.specs.Transfers.{plan_in, IsRunning, StandsAt, CountsEnd}
+use Rattle.dada_recorder.specs.Transfers.{plan_in, IsRunning, StandsAt, EndsClosed, CountsEnd}
 use Rattle.dada_recorder.specs.Turns.{cleared_headers, cleared_blocks}
 
 -- A recorder goes on after the blocks that its pass cleared of these rings. In this and the next one: whether a file is
@@ -30,6 +30,7 @@ pub record HasTurned {F : Type 0} (files_open : F → Type 0) (seen : F → File
   pub block : new.block ≡ old.block
   pub is_open : new.end ≡ None
       → IsOpenAs new.transfers.files.place.is_open (files_open files')
+  pub closed : EndsClosed new.end (files_open files')
   pub stands : StandsAt new.transfers (cleared_headers pass') (cleared_blocks pass') new.end
   pub made : (outset : Outset) → HasMade outset old.transfers.files.place.is_open
       (files_of_blocks (plan_in old.transfers) (cleared_headers pass) (cleared_blocks pass))

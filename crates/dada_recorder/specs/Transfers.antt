@@ -70,6 +70,12 @@ pub record IsInSameTransfer (old new : Transfers) : Type 0 where
   pub ended : new.ended ≡ old.ended
   pub has_header : new.has_header ≡ old.has_header
 
+-- no file is open at an end, unless a call on the files failed
+abbrev pub EndsClosed : Option RecordEnd → Type 0 → Type 0
+EndsClosed None is_open = Unit {0}
+EndsClosed (Some FileFault) is_open = Unit {0}
+EndsClosed (Some end) is_open = ¬ is_open
+
 -- a call failed where it ended by a fault, and else none did
 pub record CountsEnd (end : Option RecordEnd) (old new : FilesSeen) : Type 0 where
   pub failed : end ≡ Some FileFault → Rose old.faults new.faults

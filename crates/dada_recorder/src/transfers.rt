@@ -1,5 +1,5 @@
 //! The transfers of a stream, block by block.
-ghost use Rattle.std.specs.Prelude.{◌≡◌, ◌≢◌, ℕ, ◌+◌, ◌*◌, ◌^◌, ◌≤◌, ◌<◌, ◌++◌, ◌∷◌, [], true, false, List, length, None, Some, Option, IfOk, OnOk, OnErr};
+ghost use Rattle.std.specs.Prelude.{◌≡◌, ◌≢◌, ℕ, ◌+◌, ◌-◌, ◌*◌, ◌^◌, ◌≤◌, ◌<◌, ◌++◌, ◌∷◌, [], true, false, List, length, None, Some, Option, IfOk, OnOk, OnErr};
 ghost use Rattle.psr_base.specs.Made.{NamedBytes};
 ghost use Rattle.ring_blocks.specs.declared.Entry.{Entry};
 ghost use Rattle.dada_hdu.specs.Answers.{entry};
@@ -35,7 +35,7 @@ pub(crate) struct Transfers<'a> {
 }
 
 impl<'a> Transfers<'a> {
-    ghost use Rattle.dada_recorder.specs.Transfers.{plan_in, IsRunning, HasAppended, RunsOn, StandsAt, CountsEnd, IsInSameTransfer};
+    ghost use Rattle.dada_recorder.specs.Transfers.{plan_in, IsRunning, HasAppended, RunsOn, StandsAt, EndsClosed, CountsEnd, IsInSameTransfer};
 
     /// Takes the space for the headers. No block has come yet.
     pub(crate) fn open(
@@ -81,6 +81,7 @@ impl<'a> Transfers<'a> {
         ensures plan { plan_in self.new ≡ plan_in self.old }
         ensures is_open { result ≡ None
             → IsOpenAs self.new.files.place.is_open (F.is_open files.new) }
+        ensures closed { EndsClosed result (F.is_open files.new) }
         ensures faults { CountsEnd result (F.seen files.old) (F.seen files.new) }
         ensures stands { (headers blocks : List Entry) (block : Entry) → block.bytes ≡ bytes.now
             → IsRunning self.old headers blocks
@@ -141,6 +142,7 @@ impl<'a> Transfers<'a> {
         ensures plan { plan_in self.new ≡ plan_in self.old }
         ensures is_open { result ≡ None
             → IsOpenAs self.new.files.place.is_open (F.is_open files.new) }
+        ensures closed { EndsClosed result (F.is_open files.new) }
         ensures faults { CountsEnd result (F.seen files.old) (F.seen files.new) }
         ensures stands { (headers blocks : List Entry) (bytes : List ℕ)
             → HasAppended self.old headers blocks (entry Mark.End bytes)
@@ -177,6 +179,7 @@ impl<'a> Transfers<'a> {
         requires few { self.old.finished ≤ 8 * 10 ^ 6 }
         ensures plan { plan_in self.new ≡ plan_in self.old }
         ensures ended { result ≢ None }
+        ensures closed { EndsClosed result (F.is_open files.new) }
         ensures faults { CountsEnd result (F.seen files.old) (F.seen files.new) }
         ensures stands { (headers blocks : List Entry) (bytes : List ℕ)
             → HasAppended self.old headers blocks (entry Mark.Cut bytes)
@@ -199,6 +202,36 @@ impl<'a> Transfers<'a> {
         }
     }
 
+    // At a block with which there are too many bytes: finishes the last file, and ends the recording.
+    fn long_block<F: Files>(&mut self, files: &mut F) -> Option<RecordEnd>
+        requires header { self.old.has_header ≡ true }
+        requires is_open { IsOpenAs self.old.files.place.is_open (F.is_open files.old) }
+        ensures plan { plan_in self.new ≡ plan_in self.old }
+        ensures ended { result ≢ None }
+        ensures closed { EndsClosed result (F.is_open files.new) }
+        ensures faults { CountsEnd result (F.seen files.old) (F.seen files.new) }
+        ensures stands { (headers blocks : List Entry) (block : Entry)
+            → self.old.max_bytes - self.old.total < length block.bytes
+            → IsRunning self.old headers blocks
+            → StandsAt self.new headers (blocks ++ block ∷ []) result }
+        ensures made { (headers blocks : List Entry) (block : Entry)
+            → IsRunning self.old headers blocks → (outset : Outset)
+            → HasMade outset self.old.files.place.is_open
+            (files_of_blocks (plan_in self.old) headers blocks) (F.seen files.old)
+            → FilesAre (plan_in self.new) outset self.new.files.place.is_open headers
+            (blocks ++ block ∷ []) result (F.seen files.new) }
+    {
+        entries_are_of_transfers();
+        ends_are_counted();
+        bytes_are_joined();
+        if let Err(Failed) = self.files.close(files) {
+            return Some(RecordEnd::FileFault);
+        }
+        Some(RecordEnd::TooLong {
+            limit: self.max_bytes,
+        })
+    }
+
     // After the bytes of a data block were appended: what its mark asks for.
     fn after_data<F: Files>(&mut self, files: &mut F, mark: Mark) -> Option<RecordEnd>
         requires is_open { IsOpenAs self.old.files.place.is_open (F.is_open files.old) }
@@ -208,6 +241,7 @@ impl<'a> Transfers<'a> {
         ensures plan { plan_in self.new ≡ plan_in self.old }
         ensures is_open { result ≡ None
             → IsOpenAs self.new.files.place.is_open (F.is_open files.new) }
+        ensures closed { EndsClosed result (F.is_open files.new) }
         ensures faults { CountsEnd result (F.seen files.old) (F.seen files.new) }
         ensures stands { (headers blocks : List Entry) (bytes : List ℕ)
             → HasAppended self.old headers blocks (entry mark bytes)
@@ -277,6 +311,7 @@ impl<'a> Transfers<'a> {
         ensures plan { plan_in self.new ≡ plan_in self.old }
         ensures is_open { result ≡ None
             → IsOpenAs self.new.files.place.is_open (F.is_open files.new) }
+        ensures closed { EndsClosed result (F.is_open files.new) }
         ensures faults { CountsEnd result (F.seen files.old) (F.seen files.new) }
         ensures stands { (headers blocks : List Entry) → IsRunning self.old headers blocks
             → StandsAt self.new headers (blocks ++ entry mark bytes.now ∷ []) result }
@@ -288,9 +323,7 @@ impl<'a> Transfers<'a> {
     {
         bytes_are_joined();
         if bytes.len() as u64 > self.max_bytes - self.total {
-            return Some(RecordEnd::TooLong {
-                limit: self.max_bytes,
-            });
+            return self.long_block(files);
         }
         match self.append(files, bytes) {
             Ok(()) => self.after_data(files, mark),

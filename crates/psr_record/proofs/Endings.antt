@@ -1,7 +1,9 @@
 -- How a recording ends: before all data were sealed, or at their end.
-use Rattle.std.proofs.Common.{◌≡◌, ◌≢◌, ℕ, List, [], ◌∷◌, ◌++◌, refl, sym, ap, subst, Some, None, true, Contains, lit<, arith}
+use Rattle.std.proofs.Common.{◌≡◌, ◌≢◌, ℕ, List, [], ◌∷◌, ◌++◌, refl, sym, ap, ◌∙◌, subst, Some, None, true, Contains, lit<, arith, inl, inr}
 use Rattle.std.proofs.lemmas.List.Elements.{Contains-append_left, Contains-append_right}
-use Rattle.std.specs.Prelude.{Option}
+use Rattle.std.proofs.lemmas.Bool.{true≢false}
+use Rattle.std.specs.Prelude.{Option, ◌⊎◌}
+use Rattle.psr_base.specs.Count.{Rose}
 use Rattle.psr_base.specs.Told.{InputsSeen}
 use Rattle.psr_base.specs.Made.{FilesSeen}
 use Rattle.psr_base.specs.Written.{SinkSeen}
@@ -17,7 +19,7 @@ use Rattle.run_stop.specs.declared.stop.Stop.TheVariants.{FileFault}
 use Rattle.run_stop.specs.Texts.{status_of}
 use Rattle.run_stop.specs.Conversions.{stop_of_feed, stop_of_recorder}
 use Rattle.run_stop.specs.Runs.{RecordingAlone, CanBegin}
-use Rattle.run_stop.specs.Outcomes.{AllCleared, TellsNotes}
+use Rattle.run_stop.specs.Outcomes.{AllCleared, LeavesFiles, TellsNotes}
 use Rattle.run_stop.specs.Ends.{EndsRun, EndsShort, short_statuses, EndAtStop, EndAfterWhole, RunsThrough, IsLate, end_status}
 use Rattle.psr_record.specs.Outcome.{ForRecord, RecordsData, ClearsBlocks, Outcome}
 use Rattle.psr_record.specs.Ends.{stop_of_session, Ends}
@@ -149,3 +151,38 @@ outcome words inputs is_calm files_before files_after notes_before notes_after s
       recorded = run.ends.recorded;
       noted = noted;
     }
+
+-- ---- what is left of the files
+
+module _ (words : List (List ℕ)) {F : Type 0} (files_open : F → Type 0) (seen : F → FilesSeen) (before after : F) where
+  -- they stand
+  pub stand : (blocks : Option Finished) (status : ℕ) → after ≡ before →
+      LeavesFiles RecordingAlone words files_open seen before after blocks status
+  stand blocks status same = record {
+    before_session = λ none. same;
+    unrecorded = λ s says not. same;
+    closed = λ quiet shut. subst (λ (files : F). ¬ files_open files) (sym same) shut;
+  }
+
+  -- no call on them failed where nothing stopped the session
+  none_failed : (fed : Option Stop) (recorded : Option RecordEnd) → stop_of_session fed recorded ≡ None →
+      recorded ≢ Some recorder.FileFault
+  none_failed (Some stop) recorded none failed = absurd cc
+  none_failed None recorded none failed =
+      let some : stop_of_recorder recorded ≡ Some FileFault = ap stop_of_recorder failed in
+      absurd cc
+
+  pub leaves_closed : (blocks : Finished) (recorded : Option RecordEnd) (fed stop : Option Stop) (status : ℕ) →
+      stop ≡ stop_of_session fed recorded → (status ≡ 0 → stop ≡ None) →
+      (recorded ≡ Some recorder.FileFault → Rose (seen before).faults (seen after).faults) →
+      (recorded ≢ Some recorder.FileFault → ¬ files_open before → ¬ files_open after) →
+      LeavesFiles RecordingAlone words files_open seen before after (Some blocks) status
+  leaves_closed blocks recorded fed stop status is whole rose closed = record {
+    before_session = λ none. absurd cc;
+    unrecorded = λ s says not. absurd (true≢false (sym (records words s says) ∙ not));
+    closed = λ quiet shut. closed (fine quiet) shut;
+  }
+    where
+      fine : (status ≡ 0) ⊎ ¬ Rose (seen before).faults (seen after).faults → recorded ≢ Some recorder.FileFault
+      fine (inl zeroth) = none_failed fed recorded (sym is ∙ whole zeroth)
+      fine (inr never) = λ failed. never (rose failed)

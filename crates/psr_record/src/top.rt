@@ -1,8 +1,8 @@
 // The top call.
-ghost use Rattle.std.specs.Prelude.{◌≡◌, Some, map, string_bytes};
+ghost use Rattle.std.specs.Prelude.{◌≡◌, ℕ, Some, None, map, string_bytes};
 ghost use Rattle.disk_feeder.specs.declared.answers.FeedEnd.TheVariants.{ReadFault};
 ghost use Rattle.run_stop.specs.Conversions.{stop_of_feed};
-ghost use Rattle.run_stop.specs.Outcomes.{ReadsNoData, LeavesAtFault};
+ghost use Rattle.run_stop.specs.Outcomes.{ReadsNoData, LeavesAtFault, LeavesFiles};
 ghost use Rattle.run_stop.specs.Runs.{RecordingAlone};
 ghost use Rattle.psr_record.specs.Outcome.{Outcome};
 ghost use Rattle.psr_record.specs.Ends.{Ends, stop_of_session};
@@ -50,6 +50,8 @@ pub fn run_record<
         (I.told inputs.old) (I.told inputs.new) }
     ensures broken { result.status ≡ 6 → LeavesAtFault RecordingAlone (map string_bytes words.now)
         (I.is_calm inputs.old) (I.told inputs.old) (I.told inputs.new) result.blocks }
+    ensures left { LeavesFiles RecordingAlone (map string_bytes words.now) F.is_open F.seen
+        files.old files.new result.blocks result.status }
 {
     let ProgramEnd { stop, blocks } = record_files(rt, alloc, words, inputs, files, gate);
     let status = tell(stop, notes);
@@ -88,6 +90,9 @@ fn record_files<
     ensures broken { result.stop ≡ Some Stop.ReadFault
         → LeavesAtFault RecordingAlone (map string_bytes words.now) (I.is_calm inputs.old)
         (I.told inputs.old) (I.told inputs.new) result.blocks }
+    ensures left { (status : ℕ) → (status ≡ 0 → result.stop ≡ None)
+        → LeavesFiles RecordingAlone (map string_bytes words.now) F.is_open F.seen files.old
+        files.new result.blocks status }
 {
     end_at_words::<I>();
     end_before_session::<I>();

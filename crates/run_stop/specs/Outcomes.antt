@@ -198,6 +198,18 @@ pub record RecordsFiles
   pub quiet : status ≡ 0 → after.faults ≡ before.faults
   pub count : before.faults ≤ after.faults
 
+-- What a run leaves of the files that it was lent. Before the session, and where nothing is recorded, they stand. If no
+-- file was open before, none is open at 0, nor at any other status if no call on the files failed. In this: whether a
+-- file is open, and what files show.
+pub record LeavesFiles {F : Type 0}
+    (task : Task) (words : List (List ℕ)) (files_open : F → Type 0) (seen : F → FilesSeen)
+    (before after : F) (blocks : Option Finished) (status : ℕ) : Type 0 where
+  pub before_session : blocks ≡ None → after ≡ before
+  pub unrecorded : (s : SettingsFor task) → Says task words s → s.recording ≡ false →
+      after ≡ before
+  pub closed : (status ≡ 0) ⊎ ¬ Rose (seen before).faults (seen after).faults →
+      ¬ files_open before → ¬ files_open after
+
 -- ---- the notes
 
 -- a stop is answered: by its exit status, and by its line to the notes, of which these took the front at a fault

@@ -24,6 +24,7 @@ pub fn tell<E: Sink>(stop: Option<Stop>, notes: &mut E) -> u8
     ensures status { result ≡ end_status stop }
     ensures silent { stop ≡ None → E.seen notes.new ≡ E.seen notes.old }
     ensures line { IfSome stop (λ s. Noted (note_of s) (E.seen notes.old) (E.seen notes.new)) }
+    ensures none { result ≡ 0 → stop ≡ None }
     ensures memory { result ≡ 5 → stop ≡ Some Stop.Memory }
     ensures read_fault { result ≡ 6 → stop ≡ Some Stop.ReadFault }
     ensures told { (task : Task) (words : List (List ℕ)) (told : Told)

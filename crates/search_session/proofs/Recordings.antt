@@ -1,5 +1,5 @@
 -- The recorder's end.
-use Rattle.std.proofs.Common.{◌≡◌, ℕ, ◌-◌, ◌≤◌, false, List, [], length, Option, Some, None, refl, sym, ap, ◌∙◌, subst, arith}
+use Rattle.std.proofs.Common.{◌≡◌, ◌≢◌, ℕ, ◌-◌, ◌≤◌, false, List, [], length, Option, Some, None, refl, sym, ap, ◌∙◌, subst, arith}
 use Rattle.std.specs.Prelude.{IsSome, option_map}
 use Rattle.std.proofs.lemmas.List.{append-nil}
 use Rattle.psr_base.specs.Count.{Rose}
@@ -13,12 +13,12 @@ use Rattle.disk_feeder.specs.declared.feeder.Feeder.{Feeder}
 use Rattle.disk_feeder.specs.Feeder.{plan_at, headers_of}
 use Rattle.disk_feeder.specs.Feeding.{HeadersKeepUp, IsEnding}
 use Rattle.dada_recorder.specs.declared.answers.RecordEnd.{RecordEnd}
-use Rattle.dada_recorder.specs.declared.answers.RecordEnd.TheVariants.{FileFault}
+use Rattle.dada_recorder.specs.declared.answers.RecordEnd.TheVariants.{Whole, Cut, FileFault, BadHeader, TooLong}
 use Rattle.dada_recorder.specs.declared.recorder.Recorder.{Recorder}
 use Rattle.dada_recorder.specs.Making.{Outset, BeginsAt, HasMade, made_with, left_after, total_bytes}
 use Rattle.dada_recorder.specs.Blocks.{RecordPlan, files_of_blocks}
 use Rattle.dada_recorder.specs.Recording.{EndIs, FilesAre}
-use Rattle.dada_recorder.specs.Transfers.{IsRunning, StandsAt}
+use Rattle.dada_recorder.specs.Transfers.{IsRunning, StandsAt, EndsClosed}
 use Rattle.dada_recorder.specs.Recorder.{plan_of, has_end, has_header, has_open_file, FilesAreOf}
 use Rattle.dada_recorder.specs.RecordingLaws.{Cleared, BeginsComplete, EndsComplete, RecordingsEnd}
 use Rattle.session_readers.specs.declared.record.RecordActor.{RecordActor}
@@ -59,6 +59,13 @@ nothing_made plan outset seen begins =
 pub some_end : (end : Option RecordEnd) → IsSome end → (answer : RecordEnd) × (end ≡ Some answer)
 some_end None is = absurd cc
 some_end (Some answer) is = (answer, refl)
+
+is_closed : (is_open : Type 0) (answer : RecordEnd) → EndsClosed (Some answer) is_open → answer ≢ FileFault → ¬ is_open
+is_closed is_open (Whole files) closed other = closed
+is_closed is_open (Cut files) closed other = closed
+is_closed is_open FileFault closed other = absurd (other refl)
+is_closed is_open (BadHeader fault) closed other = closed
+is_closed is_open (TooLong limit) closed other = closed
 
 module _ {F : Type 0} (seen : F → FilesSeen) (files_open : F → Type 0) (hdu : Hdu) (part : Recorder F)
     (fresh : IsFreshRecorder files_open hdu part) where
@@ -161,7 +168,7 @@ module _ {F : Type 0} (seen : F → FilesSeen) (files_open : F → Type 0) (hdu 
       same_start : (seen start.part.files.now).faults ≡ (seen part.files.now).faults
       same_start = ap (λ (r : Recorder F). (seen r.files.now).faults) is.part_is
 
-      pub recorded_by : RecordedBy seen feeder part reader end
+      pub recorded_by : RecordedBy files_open seen feeder part reader end
       recorded_by =
           let faults = ap (λ (s : FilesSeen). s.faults) same_seen in
           let count = moved.files.count in
@@ -177,6 +184,10 @@ module _ {F : Type 0} (seen : F → FilesSeen) (files_open : F → Type 0) (hdu 
             failed = λ failed. subst (λ (n : ℕ). Rose (seen part.files.now).faults n) (sym faults)
                 (since_start.failed (is_answer ∙ ap (λ (e : RecordEnd). Some e) failed));
             quiet = λ other. faults ∙ since_start.quiet (λ e. other (inside answer (sym is_answer ∙ e)));
+            closed = λ other. subst (λ (files : F). ¬ files_open files) (sym is_end.now)
+                (is_closed (files_open x.part.files.now) answer
+                (subst (λ (e : Option RecordEnd). EndsClosed e (files_open x.part.files.now)) is_answer on.closed)
+                other);
             ends = λ can. subst (λ (l : List Entry). EndsRecording end.feed
                 (files_of_blocks (plan_of part) l (sealed_at_end end.blocks)) answer) headers_are
                 (ends_recording (plan_of part) all (length (plan_at feeder).starts) end.feed ending answer

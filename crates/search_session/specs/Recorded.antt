@@ -68,9 +68,10 @@ HasRecorded outset files seen (BadHeader fault) = ⊥
 HasRecorded outset files seen (TooLong limit) = ⊥
 
 -- What a recorder came to, whose reader has this number. It gives its files back. It met a fault only where their count
--- rose, and else they hold all files of what was sealed.
-pub record RecordedBy {I F : Type 0} (seen : F → FilesSeen) (feeder : Feeder I) (r : Recorder F)
-    (reader : ℕ) (end : SessionEnd I F) : Type 0 where
+-- rose, and else they hold all files of what was sealed, and none is open. In this: whether a file is open, and what
+-- files show.
+pub record RecordedBy {I F : Type 0} (files_open : F → Type 0) (seen : F → FilesSeen)
+    (feeder : Feeder I) (r : Recorder F) (reader : ℕ) (end : SessionEnd I F) : Type 0 where
   pub answer : RecordEnd
   pub is : end.recorded ≡ Some answer
   pub files : MutBor F
@@ -79,6 +80,7 @@ pub record RecordedBy {I F : Type 0} (seen : F → FilesSeen) (feeder : Feeder I
   pub count : (seen r.files.now).faults ≤ (seen files.now).faults
   pub failed : answer ≡ FileFault → Rose (seen r.files.now).faults (seen files.now).faults
   pub quiet : answer ≢ FileFault → (seen files.now).faults ≡ (seen r.files.now).faults
+  pub closed : answer ≢ FileFault → ¬ files_open files.now
   pub ends : SealsRecordable (plan_of r) (plan_at feeder) →
       EndsRecording end.feed (files_through feeder r end) answer
   pub made : SealsRecordable (plan_of r) (plan_at feeder) → (outset : Outset) →
@@ -93,7 +95,8 @@ pub record HasNoRecording {I F : Type 0} (end : SessionEnd I F) : Type 0 where
   pub files : end.files ≡ None
 
 -- what a session recorded, where its stage had this recorder
-abbrev pub RecordedAnswers : {I F : Type 0} → (F → FilesSeen) → Feeder I → Option (Recorder F) →
-    ℕ → SessionEnd I F → Type 0
-RecordedAnswers seen feeder None reader end = HasNoRecording end
-RecordedAnswers seen feeder (Some r) reader end = RecordedBy seen feeder r reader end
+abbrev pub RecordedAnswers : {I F : Type 0} → (F → Type 0) → (F → FilesSeen) → Feeder I →
+    Option (Recorder F) → ℕ → SessionEnd I F → Type 0
+RecordedAnswers files_open seen feeder None reader end = HasNoRecording end
+RecordedAnswers files_open seen feeder (Some r) reader end =
+    RecordedBy files_open seen feeder r reader end

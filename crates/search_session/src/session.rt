@@ -206,7 +206,7 @@ pub fn run_session<
     requires faultless { FeederFaultless stage.feeder }
     ensures feed { FeedAnswers I.told I.is_calm I.faults stage.entry.feeder result }
     ensures shards { ShardAnswers (transfers_of stage.entry) stage.entry.banks.items result }
-    ensures recorded { RecordedAnswers F.seen stage.entry.feeder stage.entry.recorder
+    ensures recorded { RecordedAnswers F.is_open F.seen stage.entry.feeder stage.entry.recorder
         (length stage.entry.banks.items) result }
 {
     feeders_end::<I>();

@@ -22,7 +22,7 @@ use Rattle.dada_recorder.specs.declared.answers.RecordTurn.TheVariants.{Moved, W
 use Rattle.dada_recorder.specs.Making.{Outset, IsOpenAs}
 use Rattle.dada_recorder.specs.declared.transfers.Transfers.{Transfers}
 use Rattle.dada_recorder.specs.Recording.{GoesOn}
-use Rattle.dada_recorder.specs.Transfers.{plan_in, StandsAt}
+use Rattle.dada_recorder.specs.Transfers.{plan_in, StandsAt, EndsClosed}
 use Rattle.dada_recorder.specs.Recorder.{plan_of, block_size, has_end, has_header, has_open_file, RecorderStands, FilesAreOf}
 use Rattle.dada_recorder.specs.Turns.{cleared_headers, cleared_blocks, ClearsNext, ReadsOne, RecordAnswers}
 use Rattle.session_readers.specs.declared.record.RecordActor.{RecordActor}
@@ -84,14 +84,16 @@ module _ {F : Type 0} (is_open : F → Type 0) (hdu : Hdu) (x y : RecordActor F)
   -- a recorder that reads stands on
   pub record_on : RecordOn is_open hdu x → ReadsBoth hdu reader → block_size y.part ≡ block_size x.part →
       (has_end y.part ≡ None → IsOpenAs (has_open_file y.part) (is_open y.part.files.now)) →
+      EndsClosed (has_end y.part) (is_open y.part.files.now) →
       RecorderStands y.part (cleared_headers reader) (cleared_blocks reader) → y.end ≡ has_end y.part →
       y.turns < 2 ^ 64 → RecordOn is_open hdu y
-  record_on on reads block file stands end small = record {
+  record_on on reads block file closed stands end small = record {
     reads = subst (λ (p : HduEnded). EndedFromBoth hdu p) (sym now) reads;
     here = λ running. (reader, now);
     stays = subst (λ (p : HduEnded). IsHereOrRetired p) (sym now) tt;
     size = on.size ∙ sym block;
     file = λ running. file (sym end ∙ running);
+    closed = subst (λ (e : Option RecordEnd). EndsClosed e (is_open y.part.files.now)) (sym end) closed;
     stands = subst (λ (p : HduEnded). RecorderStands y.part (ended_knows (header_end p)).cleared
         (ended_knows (data_end p)).cleared) (sym now) stands;
     end = end;

@@ -14,6 +14,7 @@ use Rattle.dada_recorder.specs.declared.answers.RecordEnd.{RecordEnd}
 use Rattle.dada_recorder.specs.declared.answers.RecordEnd.TheVariants.{FileFault}
 use Rattle.dada_recorder.specs.Making.{Outset, IsOpenAs}
 use Rattle.dada_recorder.specs.Recorder.{plan_of, block_size, has_end, has_open_file, RecorderStands, FilesAreOf}
+use Rattle.dada_recorder.specs.Transfers.{EndsClosed}
 use Rattle.session_readers.specs.declared.record.RecordActor.{RecordActor}
 use Rattle.session_readers.specs.Reads.{Reads}
 use Rattle.session_readers.specs.Shards.{IsHere, IsHereOrRetired}
@@ -34,6 +35,7 @@ pub record RecordOn {F : Type 0} (is_open : F → Type 0) (hdu : Hdu) (x : Recor
   pub stays : IsHereOrRetired x.pass
   pub size : (data_shape hdu).size ≡ block_size x.part
   pub file : x.end ≡ None → IsOpenAs (has_open_file x.part) (is_open x.part.files.now)
+  pub closed : EndsClosed x.end (is_open x.part.files.now)
   pub stands : RecorderStands x.part (recorded_headers x) (recorded_blocks x)
   pub end : x.end ≡ has_end x.part
   pub count : x.turns < 2 ^ 64

@@ -7,12 +7,12 @@
 #![tactic(auto)]
 
 mod bank;
-mod pause;
+mod pausing;
 mod reading;
 mod record;
 mod shard;
 
 pub use bank::Bank;
-pub use pause::pause;
+pub use pausing::pause;
 pub use record::RecordActor;
 pub use shard::ShardActor;

@@ -8,7 +8,7 @@ ghost use Rattle.session_readers.specs.Reads.{TriesNext, HasRested};
 ghost use Rattle.session_readers.specs.Shards.{HasMissed, HasFedBlock, IsHereOrRetired, IsRetired};
 
 use crate::bank::Bank;
-use crate::pause::pause;
+use crate::pausing::pause;
 use dada_hdu::{Hdu, HduEnded, HduReader, Taken};
 
 // Reads the next header and clears it. If there is none, it pauses.

@@ -1,7 +1,7 @@
 //! A recorder that takes turns.
 ghost use Rattle.std.specs.Prelude.{◌≡◌, None, IsSome};
 
-use crate::pause::pause;
+use crate::pausing::pause;
 use crate::reading::{has_next, retire};
 use dada_hdu::{Hdu, HduEnded};
 use dada_recorder::{RecordEnd, RecordTurn, Recorder};

@@ -117,7 +117,7 @@ pub records_run : {I F : Type 0} → RunsRecordBlocks → (told : I → Told) (i
     (observations : List (Option Observation)) (stage : StageSpace I F) (r : Recorder F) (reader : ℕ)
     (end : SessionEnd I F) (found : Found) (after : FilesSeen) →
     RecordsReady told is_open files_open task s offsets feeder observations stage r →
-    (by : RecordedBy seen feeder r reader end) → after ≡ seen by.files.now →
+    (by : RecordedBy files_open seen feeder r reader end) → after ≡ seen by.files.now →
     found.recorded ≡ end.recorded → found.blocks ≡ end.blocks →
     RecordsRun s (told feeder.inputs.now) found.blocks found.recorded (seen r.files.now) after
 records_run law told is_open files_open seen task s offsets feeder observations stage r reader end found after ready by
@@ -316,14 +316,15 @@ pub goes_with : {I F : Type 0} → RunsRecordBlocks → TotalsAreCounted → Fir
     (told : I → Told) (is_open is_calm : I → Type 0) (faults : I → ℕ) (files_open : F → Type 0) (seen : F → FilesSeen)
     (task : Task) (s : SettingsFor task) (offsets : List ℕ) (feeder : Feeder I)
     (observations : ArrayVec (Option Observation)) (stage : StageSpace I F) (r : Recorder F)
-    (banks : List (Option Bank)) (end : SessionEnd I F) (found : Found) (after : FilesSeen) (before : I) →
+    (banks : List (Option Bank)) (end : SessionEnd I F) (found : Found) (after : F) (before : I) →
     RecordsReady told is_open files_open task s offsets feeder observations.items stage r →
     banks ≡ (banks_in stage).items → FeedAnswers told is_calm faults feeder end →
-    ShardAnswers (length (plan_at feeder).starts) banks end → (by : RecordedBy seen feeder r (length banks) end) →
-    IsFoundOf observations end found → after ≡ seen by.files.now → HasReadSince told is_calm before feeder →
+    ShardAnswers (length (plan_at feeder).starts) banks end →
+    (by : RecordedBy files_open seen feeder r (length banks) end) →
+    IsFoundOf observations end found → after ≡ by.files.now → HasReadSince told is_calm before feeder →
     HasFedFiles told is_calm feeder end.inputs.now end.blocks end.feed →
-    IsDriven task s (told before) (seen r.files.now) after found
-goes_with blocks totals stay said told is_open is_calm faults files_open seen task s offsets feeder observations stage r
+    IsDriven task s (told before) files_open seen r.files.now after found
+goes_with {I} {F} blocks totals stay said told is_open is_calm faults files_open seen task s offsets feeder observations stage r
     banks end found after before ready same fed shards by is made read feeds =
     let ready' = ready.ready in
     let plan = ready.fresh.plan_is in
@@ -334,29 +335,34 @@ goes_with blocks totals stay said told is_open is_calm faults files_open seen ta
     subst (λ (p : RecordPlan). SealsRecordable p (plan_at feeder)) (sym plan)
     (is_recordable told is_open task s offsets feeder observations.items stage ready' ready.records) in
     let has = feeds task s before ready'.plan read in
+    let no_fault : found.recorded ≢ Some FileFault → by.answer ≢ FileFault =
+    λ fine failed. fine (is.recorded ∙ by.is ∙ ap (λ a. Some a) failed) in
     record {
       fed = fed_found told is_open is_calm task s offsets feeder observations stage end found before ready' is has;
-      recorded = said task s (told before) (told feeder.inputs.now) found.blocks found.recorded (seen r.files.now) after
-          read.names (records_run blocks told is_open files_open seen task s offsets feeder observations.items stage r
-          (length banks) end found after ready by made is.recorded is.blocks);
+      recorded = said task s (told before) (told feeder.inputs.now) found.blocks found.recorded (seen r.files.now)
+          (seen after) read.names (records_run blocks told is_open files_open seen task s offsets feeder
+          observations.items stage r (length banks) end found (seen after) ready by (ap seen made) is.recorded
+          is.blocks);
+      stands = λ not. absurd (true≢false (sym ready.records ∙ not));
+      closed = λ fine shut. subst (λ (files : F). ¬ files_open files) (sym made) (by.closed (no_fault fine));
       cleared = clears_found task s observations.items banks end found are shards.cleared
-          (λ records fine. by.cleared recordable (λ failed. fine (is.recorded ∙ by.is ∙ ap (λ a. Some a) failed)))
-          is.blocks;
+          (λ records fine. by.cleared recordable (no_fault fine)) is.blocks;
       held = holds_found totals stay told is_open is_calm faults task s offsets feeder observations stage banks end
           found before ready' of_stage fed shards is read has;
     }
 
 pub goes_without : {I F : Type 0} → TotalsAreCounted → FirstsStayTold → RecordingsAreSaid → (told : I → Told)
-    (is_open is_calm : I → Type 0) (faults : I → ℕ) (task : Task) (s : SettingsFor task) (offsets : List ℕ)
-    (feeder : Feeder I) (observations : ArrayVec (Option Observation)) (stage : StageSpace I F)
-    (banks : List (Option Bank)) (end : SessionEnd I F) (found : Found) (files after : FilesSeen) (before : I) →
+    (is_open is_calm : I → Type 0) (faults : I → ℕ) (files_open : F → Type 0) (seen : F → FilesSeen) (task : Task)
+    (s : SettingsFor task) (offsets : List ℕ) (feeder : Feeder I) (observations : ArrayVec (Option Observation))
+    (stage : StageSpace I F) (banks : List (Option Bank)) (end : SessionEnd I F) (found : Found) (files after : F)
+    (before : I) →
     SearchesReady told is_open task s offsets feeder observations.items stage → banks ≡ (banks_in stage).items →
     FeedAnswers told is_calm faults feeder end → ShardAnswers (length (plan_at feeder).starts) banks end →
     HasNoRecording end → IsFoundOf observations end found → after ≡ files → HasReadSince told is_calm before feeder →
     HasFedFiles told is_calm feeder end.inputs.now end.blocks end.feed →
-    IsDriven task s (told before) files after found
-goes_without totals stay said told is_open is_calm faults task s offsets feeder observations stage banks end found files
-    after before ready same fed shards none is made read feeds =
+    IsDriven task s (told before) files_open seen files after found
+goes_without {I} {F} totals stay said told is_open is_calm faults files_open seen task s offsets feeder observations
+    stage banks end found files after before ready same fed shards none is made read feeds =
     let ready' = ready.ready in
     let of_stage = banks_of_stage told is_open task s offsets feeder observations.items stage banks ready' same in
     let are : AreBanksOf task s observations.items banks =
@@ -365,15 +371,18 @@ goes_without totals stay said told is_open is_calm faults task s offsets feeder 
     let has = feeds task s before ready'.plan read in
     record {
       fed = fed_found told is_open is_calm task s offsets feeder observations stage end found before ready' is has;
-      recorded = said task s (told before) (told feeder.inputs.now) found.blocks found.recorded files after read.names
+      recorded = said task s (told before) (told feeder.inputs.now) found.blocks found.recorded (seen files)
+          (seen after) read.names
           (record {
-            unrecorded = λ not. (made, λ failed. never (sym no_answer ∙ failed));
+            unrecorded = λ not. (ap seen made, λ failed. never (sym no_answer ∙ failed));
             all = λ fine records. absurd (true≢false (sym records ∙ ready.records_not));
             front = λ failed records. absurd (true≢false (sym records ∙ ready.records_not));
             rose = λ failed. absurd (never (sym no_answer ∙ failed));
-            quiet = λ fine. ap (λ (v : FilesSeen). v.faults) made;
-            count = subst (λ (v : FilesSeen). files.faults ≤ v.faults) (sym made) (omega arith);
+            quiet = λ fine. ap (λ (f : F). (seen f).faults) made;
+            count = subst (λ (f : F). (seen files).faults ≤ (seen f).faults) (sym made) (omega arith);
           });
+      stands = λ not. made;
+      closed = λ fine shut. subst (λ (f : F). ¬ files_open f) (sym made) shut;
       cleared = clears_found task s observations.items banks end found are shards.cleared
           (λ records fine. absurd (true≢false (sym records ∙ ready.records_not))) is.blocks;
       held = holds_found totals stay told is_open is_calm faults task s offsets feeder observations stage banks end

@@ -1,6 +1,6 @@
 -- What a run of either program leaves, from its settings to the end of its session, or where it stops before.
 -- Source: this project's choice.
-use Rattle.std.specs.Prelude.{◌≡◌, ◌≢◌, ℕ, ◌^◌, ◌<◌, true, List, map, Option, Some, Result, Ok, Err}
+use Rattle.std.specs.Prelude.{◌≡◌, ◌≢◌, ℕ, ◌^◌, ◌<◌, true, false, List, map, Option, Some, Result, Ok, Err}
 use Rattle.psr_base.specs.Told.{Told}
 use Rattle.psr_base.specs.Made.{FilesSeen}
 use Rattle.search_model.specs.declared.search.Search.{Search}
@@ -69,12 +69,16 @@ pub record HoldsFound {S : Type 0} (search : Search) (s : SettingsOf S) (told : 
   pub known : OfRun told s (λ w. transfers ≡ observed_transfers w)
 
 -- A run went to the end of its session. Its feeder and its recorder did, for all words that say its settings, what a
--- run does; its readers cleared what was sealed; and its books hold what was searched, where all data were read.
-pub record IsDriven (task : Task) (s : SettingsFor task) (told : Told) (before after : FilesSeen)
-    (found : Found) : Type 0 where
+-- run does; its readers cleared what was sealed; and its books hold what was searched, where all data were read. Where
+-- nothing is recorded the files stand; and if no file was open before, none is, unless a call on them failed. In this:
+-- whether a file is open, and what files show.
+pub record IsDriven {F : Type 0} (task : Task) (s : SettingsFor task) (told : Told)
+    (files_open : F → Type 0) (seen : F → FilesSeen) (before after : F) (found : Found) : Type 0 where
   pub fed : ForWords task s (λ words. IsRunFed task words told found.blocks found.feed)
   pub recorded : ForWords task s (λ words.
-      IsRecorded task words told found.blocks found.recorded before after)
+      IsRecorded task words told found.blocks found.recorded (seen before) (seen after))
+  pub stands : s.recording ≡ false → after ≡ before
+  pub closed : found.recorded ≢ Some FileFault → ¬ files_open before → ¬ files_open after
   pub cleared : ClearsAll task s found
   pub held : IfSearch task s.search (λ search. (bytes : ℕ) → found.feed ≡ Whole bytes →
       HoldsFound search s told found)

@@ -52,7 +52,7 @@ fn within<'a, I: Inputs + Send, F: Files + Send, G: Gate + Sync, R: Threads + Wa
     ensures leaves { LeavesInputs (task_of purpose) (settings_for purpose run.now)
         (I.is_calm inputs.old) (I.told inputs.old) (I.told result.inputs.now) result.done }
     ensures driven { IfOk result.done (IsDriven (task_of purpose) (settings_for purpose run.now)
-        (I.told inputs.old) (F.seen files.old) (F.seen result.files.now)) }
+        (I.told inputs.old) F.is_open F.seen files.old result.files.now) }
 {
     early_stops_are_said::<I>();
     let space = match FeederSpace::reserve(
@@ -120,7 +120,7 @@ pub fn drive<I: Inputs + Send, F: Files + Send, G: Gate + Sync, R: Threads + Wai
     ensures leaves { LeavesInputs (task_of purpose) (settings_for purpose run.now)
         (I.is_calm inputs.old) (I.told inputs.old) (I.told inputs.new) result }
     ensures driven { IfOk result (IsDriven (task_of purpose) (settings_for purpose run.now)
-        (I.told inputs.old) (F.seen files.old) (F.seen files.new)) }
+        (I.told inputs.old) F.is_open F.seen files.old files.new) }
 {
     let mut offsets = ArrayVec::new();
     give_back(within(rt, alloc, purpose, run, inputs, files, &mut offsets, gate))

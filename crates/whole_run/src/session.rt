@@ -127,8 +127,8 @@ fn with_recorder<
     ensures went { (task : Task) (s : SettingsFor task) (offsets : List ℕ) (before : I)
         → RecordsReady I.told I.is_open F.is_open task s offsets feeder.entry observations.items
         stage.entry recorder.entry → HasReadSince I.told I.is_calm before feeder.entry
-        → IsDriven task s (I.told before) (F.seen recorder.entry.files.now)
-        (F.seen result.files.now) result.done }
+        → IsDriven task s (I.told before) F.is_open F.seen recorder.entry.files.now
+        result.files.now result.done }
 {
     runs_record_blocks();
     sessions_feed_files::<I, F>();
@@ -167,8 +167,7 @@ fn without_recorder<
     ensures went { (task : Task) (s : SettingsFor task) (offsets : List ℕ) (before : I)
         → SearchesReady I.told I.is_open task s offsets feeder.entry observations.items stage.entry
         → HasReadSince I.told I.is_calm before feeder.entry
-        → IsDriven task s (I.told before) (F.seen files.old) (F.seen result.files.now)
-        result.done }
+        → IsDriven task s (I.told before) F.is_open F.seen files.old result.files.now result.done }
 {
     sessions_feed_files::<I, F>();
     firsts_stay_told();
@@ -206,8 +205,7 @@ pub(crate) fn go_on<
     ensures went { (task : Task) (s : SettingsFor task) (before : I)
         → IsOpened I.told I.is_open task s feeder.entry opened.entry.observations.items
         opened.entry.spaces → HasReadSince I.told I.is_calm before feeder.entry
-        → IsDriven task s (I.told before) (F.seen files.old) (F.seen result.files.now)
-        result.done }
+        → IsDriven task s (I.told before) F.is_open F.seen files.old result.files.now result.done }
 {
     let OpenedRun {
         observations,

@@ -1,7 +1,8 @@
 use Rattle.std.proofs.Common.{◌≡◌, Some, None, refl, ap}
 use Rattle.run_stop.specs.declared.stop.Stop.{Stop}
 use Rattle.run_stop.specs.declared.stop.Stop.TheVariants.{ReadFault}
-use Rattle.psr_record.proofs.Endings.{records, at_short, after_session}
+use Rattle.run_stop.specs.Conversions.{stop_of_feed}
+use Rattle.psr_record.proofs.Endings.{records, at_short, after_session, stand, leaves_closed}
 use Rattle.psr_record.proofs.top.record_files.Goals as goal
 
 pub drive-requires-clause-drivable : goal.drive-requires-clause-drivable
@@ -53,3 +54,21 @@ one_stop a b e = cc
 pub returns-clause-broken : goal.returns-clause-broken
 returns-clause-broken g c = λ failed.
     c.in-Err-drive.ensures.leaves.broken (one_stop c.in-Err-drive.stop ReadFault failed) _ c.in-Ok.ensures.says
+
+-- ---- what is left of the files
+
+pub returns-in-Err-clause-left : goal.returns-in-Err-clause-left
+returns-in-Err-clause-left g c = λ status zeroth.
+    stand _ g.F.Files.is_open g.F.Files.seen c.args.files.now c.args.files.now _ status refl
+
+pub returns-in-Ok-drive-clause-left : goal.returns-in-Ok-drive-clause-left
+returns-in-Ok-drive-clause-left g c = λ status zeroth.
+    let driven = c.in-Ok-drive.ensures.driven in
+    let found = c.in-Ok-drive.found in
+    leaves_closed _ g.F.Files.is_open g.F.Files.seen c.args.files.now c.drive.new.files found.blocks found.recorded
+    (stop_of_feed found.feed) c.stop_of-stop.result status c.stop_of-stop.ensures.is zeroth
+    (driven.recorded _ c.in-Ok.ensures.says).rose driven.closed
+
+pub returns-clause-left : goal.returns-clause-left
+returns-clause-left g c = λ status zeroth.
+    stand _ g.F.Files.is_open g.F.Files.seen c.args.files.now c.drive.new.files _ status c.in-Err-drive.ensures.stands

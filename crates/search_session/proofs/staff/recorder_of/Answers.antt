@@ -17,6 +17,7 @@ returns-clause-on g c =
       size = fresh.size;
       file = λ running. subst (λ (b : Bool). IsOpenAs b (g.F.Files.is_open part.files.now)) (sym fresh.no_file)
           fresh.closed;
+      closed = tt;
       stands = subst (λ (l : List Entry). RecorderStands part (headers_cleared c.args.reader) l) (sym reader.no_block)
           (subst (λ (l : List Entry). RecorderStands part l []) (sym reader.no_header) fresh.stands);
       end = sym fresh.running;

@@ -1,6 +1,5 @@
-use Rattle.std.proofs.Common.{ap, subst, sym, refl}
+use Rattle.std.proofs.Common.{subst, sym, refl}
 use Rattle.std.specs.Prelude.{IsSome}
-use Rattle.psr_base.specs.Made.{FilesSeen}
 use Rattle.whole_run.specs.Wholes.{IsDriven}
 use Rattle.whole_run.proofs.Staging.{records_ready, searches_ready}
 use Rattle.whole_run.proofs.session.go_on.Goals as goal
@@ -27,9 +26,9 @@ returns-in-Some-clause-went g c = λ task s before opened read.
     c.over-recorder.ensures.fresh
     (λ is_open. c.requires.closed (subst IsSome (sym c.in-Some.is) refl)
     (subst IsOpen c.over-recorder.ensures.files is_open)) in
-    let Driven : FilesSeen → Type 0 = λ files. IsDriven task s (g.I.Inputs.told before) files
-    (g.F.Files.seen c.with_recorder.result.files.now) c.with_recorder.result.done in
-    subst Driven (ap g.F.Files.seen c.over-recorder.ensures.files)
+    let Driven : _ → Type 0 = λ files. IsDriven task s (g.I.Inputs.told before) g.F.Files.is_open g.F.Files.seen files
+    c.with_recorder.result.files.now c.with_recorder.result.done in
+    subst Driven c.over-recorder.ensures.files
     (c.with_recorder.ensures.went task s opened.offsets before ready read)
 
 pub without_recorder-requires-clause-ready : goal.without_recorder-requires-clause-ready

@@ -23,7 +23,7 @@ returns-clause-same_files g c =
     let end = c.run_session-end.result in
     let stage = c.stage-stage.result in
     let Recorded : Option (Recorder _) → Type 0 = λ r.
-    RecordedAnswers g.F.Files.seen stage.feeder r (length stage.banks.items) end in
+    RecordedAnswers g.F.Files.is_open g.F.Files.seen stage.feeder r (length stage.banks.items) end in
     let by = subst Recorded c.stage-stage.ensures.recorder c.run_session-end.ensures.recorded in
     (c.found_of.ensures.files by.files by.given).1 ∙ by.same_reference
 
@@ -47,18 +47,20 @@ returns-clause-went g c = λ task s offsets before ready read.
     let Fed : Feeder _ → Type 0 = λ feeder.
     FeedAnswers g.I.Inputs.told g.I.Inputs.is_calm g.I.Inputs.faults feeder end in
     let Shards : Feeder _ → Type 0 = λ feeder. ShardAnswers (length (plan_at feeder).starts) banks end in
-    let Recorded : Option (Recorder _) → Type 0 = λ r. RecordedAnswers seen stage.feeder r (length banks) end in
-    let By : Feeder _ → Type 0 = λ feeder. RecordedBy seen feeder c.args.recorder (length banks) end in
+    let files_open = g.F.Files.is_open in
+    let Recorded : Option (Recorder _) → Type 0 = λ r.
+    RecordedAnswers files_open seen stage.feeder r (length banks) end in
+    let By : Feeder _ → Type 0 = λ feeder. RecordedBy files_open seen feeder c.args.recorder (length banks) end in
     let fed = subst Fed c.stage-stage.ensures.feeder c.run_session-end.ensures.feed in
     let shards = subst Shards c.stage-stage.ensures.feeder c.run_session-end.ensures.shards in
     let by = subst By c.stage-stage.ensures.feeder
     (subst Recorded c.stage-stage.ensures.recorder c.run_session-end.ensures.recorded) in
     goes_with c.runs_record_blocks.ensures c.totals_are_counted.ensures c.firsts_stay_told.ensures
     c.recordings_are_said.ensures g.I.Inputs.told g.I.Inputs.is_open g.I.Inputs.is_calm g.I.Inputs.faults
-    g.F.Files.is_open seen task s offsets c.args.feeder c.args.observations c.args.stage c.args.recorder banks end
-    c.found_of.result.done (seen c.found_of.result.files.now) before ready
+    files_open seen task s offsets c.args.feeder c.args.observations c.args.stage c.args.recorder banks end
+    c.found_of.result.done c.found_of.result.files.now before ready
     (ap (λ ls. ls.items) c.stage-stage.ensures.banks) fed shards by c.found_of.ensures.found
-    (ap seen (c.found_of.ensures.files by.files by.given).0) read
+    (c.found_of.ensures.files by.files by.given).0 read
     (c.sessions_feed_files.ensures c.args.feeder end fed)
 
 pub found_of-requires : goal.found_of-requires
@@ -66,6 +68,6 @@ found_of-requires g c =
     let end = c.run_session-end.result in
     let stage = c.stage-stage.result in
     let Recorded : Option (Recorder _) → Type 0 = λ r.
-    RecordedAnswers g.F.Files.seen stage.feeder r (length stage.banks.items) end in
+    RecordedAnswers g.F.Files.is_open g.F.Files.seen stage.feeder r (length stage.banks.items) end in
     let by = subst Recorded c.stage-stage.ensures.recorder c.run_session-end.ensures.recorded in
     (by.files, by.given)

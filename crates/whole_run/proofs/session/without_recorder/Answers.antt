@@ -36,12 +36,14 @@ returns-clause-went g c = λ task s offsets before ready read.
     let Fed : Feeder _ → Type 0 = λ feeder.
     FeedAnswers g.I.Inputs.told g.I.Inputs.is_calm g.I.Inputs.faults feeder end in
     let Shards : Feeder _ → Type 0 = λ feeder. ShardAnswers (length (plan_at feeder).starts) banks end in
-    let Recorded : Option (Recorder _) → Type 0 = λ r. RecordedAnswers seen stage.feeder r (length banks) end in
+    let files_open = g.F.Files.is_open in
+    let Recorded : Option (Recorder _) → Type 0 = λ r.
+    RecordedAnswers files_open seen stage.feeder r (length banks) end in
     let fed = subst Fed c.stage-stage.ensures.feeder c.run_session-end.ensures.feed in
     goes_without c.totals_are_counted.ensures c.firsts_stay_told.ensures c.recordings_are_said.ensures g.I.Inputs.told
-    g.I.Inputs.is_open g.I.Inputs.is_calm g.I.Inputs.faults task s offsets c.args.feeder c.args.observations
-    c.args.stage banks end c.found_without.result.done (seen c.args.files.now)
-    (seen c.found_without.result.files.now) before ready (ap (λ ls. ls.items) c.stage-stage.ensures.banks) fed
+    g.I.Inputs.is_open g.I.Inputs.is_calm g.I.Inputs.faults files_open seen task s offsets c.args.feeder
+    c.args.observations c.args.stage banks end c.found_without.result.done c.args.files.now
+    c.found_without.result.files.now before ready (ap (λ ls. ls.items) c.stage-stage.ensures.banks) fed
     (subst Shards c.stage-stage.ensures.feeder c.run_session-end.ensures.shards)
     (subst Recorded c.stage-stage.ensures.recorder c.run_session-end.ensures.recorded) c.found_without.ensures.found
-    (ap seen c.found_without.ensures.files) read (c.sessions_feed_files.ensures c.args.feeder end fed)
+    c.found_without.ensures.files read (c.sessions_feed_files.ensures c.args.feeder end fed)

@@ -23,6 +23,7 @@ returns-clause-files g c =
     let turned = c.turn.ensures.turned in
     record {
       is_open = turned.is_open;
+      closed = turned.closed;
       full = open_is new.transfers (cleared_headers pass') (cleared_blocks pass') new.end turned.stands;
       made = λ outset files. turned.made outset (files_running old.transfers outset (cleared_headers pass)
           (cleared_blocks pass) old.end (g.F.Files.seen c.args.self.now.files.now) c.requires.running files);

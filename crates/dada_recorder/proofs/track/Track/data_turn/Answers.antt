@@ -32,7 +32,7 @@ returns-in-Ok-clause-turned g c =
     c.data_block-end.new.files new c.data_block-end.new.self (cleared_headers old)
     (cleared_blocks old ++ entry c.in-Ok.taken.mark (take used space) ∷ []) c.data_block-end.result
     c.settle.ensures.transfers c.settle.ensures.end c.settle.ensures.block headers blocks c.clear.ensures.ring
-    c.data_block-end.ensures.plan c.data_block-end.ensures.is_open
+    c.data_block-end.ensures.plan c.data_block-end.ensures.is_open c.data_block-end.ensures.closed
     (c.data_block-end.ensures.stands (cleared_headers old) (cleared_blocks old) stands)
     (c.data_block-end.ensures.made (cleared_headers old) (cleared_blocks old) stands) c.data_block-end.ensures.faults
 
@@ -45,5 +45,5 @@ returns-in-Err-clause-turned g c =
     c.args.files.now new c.args.self.now.transfers (cleared_headers old) (cleared_blocks old) None refl
     goes_on.running refl (ap (λ (p : ReaderPass). (reader_knows p).cleared) c.in-Err.ensures.header)
     (none_cleared (reader_knows old.blocks) (reader_knows new.blocks) c.in-Err.stop c.in-Err.ensures.blocks.cases)
-    c.in-Err.ensures.ring refl (λ running. goes_on.is_open) goes_on.stands (λ outset has. has)
+    c.in-Err.ensures.ring refl (λ running. goes_on.is_open) tt goes_on.stands (λ outset has. has)
     (none_counted (g.F.Files.seen c.args.files.now))

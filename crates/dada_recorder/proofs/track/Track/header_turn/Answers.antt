@@ -25,7 +25,7 @@ returns-in-Ok-clause-turned g c =
     c.header_block-end.new.files new c.header_block-end.new.self (cleared_headers old ++ read.entry ∷ [])
     (cleared_blocks old) c.header_block-end.result c.settle.ensures.transfers c.settle.ensures.end
     c.settle.ensures.block headers blocks c.clear_header.ensures.ring c.header_block-end.ensures.plan
-    c.header_block-end.ensures.is_open
+    c.header_block-end.ensures.is_open c.header_block-end.ensures.closed
     (c.header_block-end.ensures.stands (cleared_headers old) (cleared_blocks old) read.entry bytes stands)
     (c.header_block-end.ensures.made (cleared_headers old) (cleared_blocks old) read.entry bytes stands)
     c.header_block-end.ensures.faults
@@ -40,4 +40,4 @@ returns-in-Err-clause-turned g c =
     goes_on.running refl
     (none_cleared (reader_knows old.header) (reader_knows new.header) c.in-Err.stop c.in-Err.ensures.header.cases)
     (ap (λ (p : ReaderPass). (reader_knows p).cleared) c.in-Err.ensures.blocks) c.in-Err.ensures.ring refl
-    (λ running. goes_on.is_open) goes_on.stands (λ outset has. has) (none_counted (g.F.Files.seen c.args.files.now))
+    (λ running. goes_on.is_open) tt goes_on.stands (λ outset has. has) (none_counted (g.F.Files.seen c.args.files.now))

@@ -1,12 +1,16 @@
 use Rattle.std.proofs.Common.{refl, arith}
 use Rattle.dada_hdu.specs.Answers.{entry}
-use Rattle.dada_recorder.proofs.DataBlocks.{too_long, number_small, few_ended}
+use Rattle.dada_recorder.proofs.DataBlocks.{number_small, few_ended}
 use Rattle.dada_recorder.proofs.transfers.Transfers.data_block.Goals as goal
 
 pub returns-then-bytes-self-clause-stands : goal.returns-then-bytes-self-clause-stands
 returns-then-bytes-self-clause-stands g c = λ headers blocks run.
-    too_long c.bytes_are_joined.ensures c.args.self.now headers blocks (entry c.args.mark c.args.bytes.now)
-    c.requires.header run (omega (arith, c.if-bytes-self.true))
+    c.long_block.ensures.stands headers blocks (entry c.args.mark c.args.bytes.now)
+    (omega (arith, c.if-bytes-self.true)) run
+
+pub returns-then-bytes-self-clause-made : goal.returns-then-bytes-self-clause-made
+returns-then-bytes-self-clause-made g c = λ headers blocks run.
+    c.long_block.ensures.made headers blocks (entry c.args.mark c.args.bytes.now) run
 
 pub after_data-requires-clause-number : goal.after_data-requires-clause-number
 after_data-requires-clause-number g c =

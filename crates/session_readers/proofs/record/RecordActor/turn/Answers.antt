@@ -9,20 +9,20 @@ turn-requires-clause-stands g c = stood c.args.self.now c.in-Here.reader c.in-He
 pub returns-in-Moved-clause-on : goal.returns-in-Moved-clause-on
 returns-in-Moved-clause-on g c =
     record_on g.F.Files.is_open c.args.hdu.now c.args.self.now _ c.turn.new.pass refl c.requires.on c.turn.ensures.ring
-    c.turn.ensures.kept.block c.turn.ensures.files.is_open c.turn.ensures.stands
+    c.turn.ensures.kept.block c.turn.ensures.files.is_open c.turn.ensures.files.closed c.turn.ensures.stands
     (c.requires.running ∙ sym c.in-Moved.ensures.answer.0) (omega arith)
 
 pub returns-in-Waiting-clause-on : goal.returns-in-Waiting-clause-on
 returns-in-Waiting-clause-on g c =
     record_on g.F.Files.is_open c.args.hdu.now c.args.self.now _ c.turn.new.pass refl c.requires.on c.turn.ensures.ring
-    c.turn.ensures.kept.block c.turn.ensures.files.is_open c.turn.ensures.stands
+    c.turn.ensures.kept.block c.turn.ensures.files.is_open c.turn.ensures.files.closed c.turn.ensures.stands
     (c.requires.running ∙ sym c.in-Waiting.ensures.answer.0) (omega arith)
 
 pub returns-in-Ended-clause-on : goal.returns-in-Ended-clause-on
 returns-in-Ended-clause-on g c =
     record_on g.F.Files.is_open c.args.hdu.now c.args.self.now _ c.turn.new.pass refl c.requires.on c.turn.ensures.ring
-    c.turn.ensures.kept.block c.turn.ensures.files.is_open c.turn.ensures.stands (sym c.in-Ended.ensures.answer.0)
-    (omega arith)
+    c.turn.ensures.kept.block c.turn.ensures.files.is_open c.turn.ensures.files.closed c.turn.ensures.stands
+    (sym c.in-Ended.ensures.answer.0) (omega arith)
 
 pub returns-in-Moved-clause-moved : goal.returns-in-Moved-clause-moved
 returns-in-Moved-clause-moved g c =
