@@ -155,7 +155,8 @@ def looked_at(samples: Samples, mask: str | None) -> Look:
     form = form_of(samples)
     words = tuple(FORM_WORDS[form].split()) if form in FORM_WORDS else ()
     if mask is None:
-        mask = mask_text(file_numbers(head, stand_out(measure(samples, LOOKED_AT // head.spectrum_bytes, form))))
+        whole = measure(samples, LOOKED_AT // head.spectrum_bytes, form).whole
+        mask = mask_text(file_numbers(head, stand_out(whole)))
     return Look(head.without(mask), mask, words)
 
 
