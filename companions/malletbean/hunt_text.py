@@ -200,7 +200,8 @@ def cut_line(hunt: Hunt) -> str:
         if search.raised:
             seconds = sum(one.until - one.first for one in search.raised) * search.average * hunt.observation.tsamp
             least, most = min(one.snr for one in search.raised), max(one.snr for one in search.raised)
-            left.append(f"{search.name}: {seconds:.1f} s had too many lines: searched from S/N {least:g} to {most:g} on")
+            left.append(f"{search.name}: {seconds:.1f} s had too many lines: searched from S/N {least:g} to {most:g} "
+                        "on")
     return "; ".join(left) or "nothing"
 
 

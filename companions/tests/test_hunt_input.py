@@ -28,7 +28,8 @@ CHANNELS, SPECTRA = 64, 8192
 def forms(tmp_path_factory: pytest.TempPathFactory) -> dict[str, list[str]]:
     """The files of one observation, by the companion that turns them."""
     folder = tmp_path_factory.mktemp("forms")
-    values = made.make(folder / "sky.dada", number=3, channels=CHANNELS, spectra=SPECTRA, delay=100, period=1000, height=4)
+    values = made.make(folder / "sky.dada", number=3, channels=CHANNELS, spectra=SPECTRA, delay=100, period=1000,
+                       height=4)
     data = values.astype("u1").tobytes()
     rows = values.reshape(8, -1, 1, CHANNELS)
     step = -400 / CHANNELS
@@ -72,7 +73,6 @@ def test_a_file_that_is_too_short_is_named(forms: dict[str, list[str]], tmp_path
     assert line in said and str(path) in said and "front" not in said
 
 
-
 @pytest.mark.parametrize("name", ["psr_fil", "psr_fits"])
 def test_dry_runs_are_the_same(forms: dict[str, list[str]], tmp_path: Path, monkeypatch: pytest.MonkeyPatch,
                                capsys: pytest.CaptureFixture[str], name: str) -> None:
@@ -99,7 +99,8 @@ def test_hunts_are_the_same(forms: dict[str, list[str]], tmp_path: Path, monkeyp
 
 
 @needs_search
-def test_stopped_while_it_is_turned(forms: dict[str, list[str]], tmp_path: Path, monkeypatch: pytest.MonkeyPatch) -> None:
+def test_stopped_while_it_is_turned(forms: dict[str, list[str]], tmp_path: Path,
+                                    monkeypatch: pytest.MonkeyPatch) -> None:
     folder = tmp_path / "hunt"
     folder.mkdir()
     (folder / ".99999999.observation.dada").write_text("a part")
