@@ -27,6 +27,7 @@ def psr_fil(words: Sequence[str]) -> None:
     """Writes the DADA file that the words ask for."""
     asked = parsed(words)
     kinds = KINDS | dict(asked.keyword or [])
+    check_files(asked.files, kinds)
     with ExitStack() as stack:
         source = Source(asked.files[0], stack.enter_context(opened(asked.files[0])), kinds)
         banks = Filterbanks(asked.files, source, asked.only, stack)
@@ -124,6 +125,21 @@ def chosen_ifs(source: Source, bank: Filterbank, only: int | None) -> tuple[int,
     if bank.ifs not in (1, 2):
         raise source.refused(f"it has {bank.ifs} IFs: choose one with --if K, K from 0 on")
     return tuple(range(bank.ifs))
+
+
+def check_files(paths: Sequence[str], kinds: dict[str, str] = KINDS) -> None:
+    """Refuses files that don't follow one another, by their headers and sizes; among pipes that is seen as they are
+    read."""
+    if len(paths) == 1 or not all(map(os.path.isfile, paths)):
+        return
+    first, count = None, 0
+    for path in paths:
+        with opened(path) as file:
+            source = Source(path, file, kinds)
+            bank = source.bank()
+            first = first or bank
+            check_follows(source, bank, first, count)
+            count += (os.path.getsize(path) - file.tell()) * 8 // (bank.in_one * bank.bits)
 
 
 def check_follows(source: Source, bank: Filterbank, first: Filterbank, count: int) -> None:

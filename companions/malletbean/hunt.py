@@ -428,7 +428,7 @@ def finish(asked: argparse.Namespace, running: Running, begun: float) -> None:
         series = pool.submit(write_candidate_series, folder, table, MOST_SERIES)
         write_report(folder, most=MOST_PICTURES)
         series.result()
-    lines = summary_lines(folder, running.hunt, count_lines(running), time.monotonic() - begun)
+    lines = summary_lines(folder, running.hunt, running.head, count_lines(running), time.monotonic() - begun)
     if not asked.keep:
         clear(running)
     with whole_file(os.path.join(folder, "summary")) as path, open(path, "w", encoding="utf-8") as file:

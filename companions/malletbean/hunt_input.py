@@ -17,6 +17,7 @@ from .arrays import Array
 from .bad_channels import file_numbers, stand_out
 from .cluster import scripts
 from .conversion import Values, convert
+from .fil import check_files
 from .headers import TAKEN, Header, fields_of, header_text
 from .masks import mask_text
 from .noise import FORM_WORDS, form_of, measure
@@ -96,6 +97,8 @@ def tried(converter: str, paths: Sequence[str], folder: str) -> tuple[Samples, i
         # such a file can't be cut anywhere
         spectra = tried_fits(paths, output)
         return Samples([output]), spectra
+    if converter == "psr_fil":
+        check_files(paths)
     with opened(paths[0]) as file, open(front, "wb") as cut:
         some = file.read(TRIED)
         cut.write(some)

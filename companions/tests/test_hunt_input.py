@@ -73,6 +73,23 @@ def test_a_file_that_is_too_short_is_named(forms: dict[str, list[str]], tmp_path
     assert line in said and str(path) in said and "front" not in said
 
 
+def test_filterbanks_that_do_not_follow_one_another(forms: dict[str, list[str]], tmp_path: Path,
+                                                     monkeypatch: pytest.MonkeyPatch,
+                                                     capsys: pytest.CaptureFixture[str]) -> None:
+    """They are refused before any is turned."""
+    words = [*forms["psr_fil"], *forms["psr_fil"], "--dm", "0", "20", "-o", str(tmp_path / "hunt")]
+    assert hunted(monkeypatch, *words, "--dry-run") == hunted(monkeypatch, *words) == 3
+    assert "begins -8192.0 spectra after the end of the file before it" in capsys.readouterr().err
+
+
+@pytest.mark.parametrize("high, is_said", [("20", False), ("500", True)])
+def test_a_sweep_past_the_data(forms: dict[str, list[str]], tmp_path: Path, monkeypatch: pytest.MonkeyPatch,
+                               capsys: pytest.CaptureFixture[str], high: str, is_said: bool) -> None:
+    words = [*forms["psr_fil"], "--dm", "0", high, "-o", str(tmp_path / "hunt"), "--dry-run"]
+    assert hunted(monkeypatch, *words) == 0
+    assert ("not found    pulses above DM 399.6: they take longer" in capsys.readouterr().out) == is_said
+
+
 @pytest.mark.parametrize("name", ["psr_fil", "psr_fits"])
 def test_dry_runs_are_the_same(forms: dict[str, list[str]], tmp_path: Path, monkeypatch: pytest.MonkeyPatch,
                                capsys: pytest.CaptureFixture[str], name: str) -> None:
