@@ -27,7 +27,8 @@ def psr_fil(words: Sequence[str]) -> None:
     """Writes the DADA file that the words ask for."""
     asked = parsed(words)
     kinds = KINDS | dict(asked.keyword or [])
-    check_files(asked.files, kinds)
+    if len(asked.files) > 1 and all(map(os.path.isfile, asked.files)):
+        spectra_in(asked.files, kinds)
     with ExitStack() as stack:
         source = Source(asked.files[0], stack.enter_context(opened(asked.files[0])), kinds)
         banks = Filterbanks(asked.files, source, asked.only, stack)
@@ -127,11 +128,8 @@ def chosen_ifs(source: Source, bank: Filterbank, only: int | None) -> tuple[int,
     return tuple(range(bank.ifs))
 
 
-def check_files(paths: Sequence[str], kinds: dict[str, str] = KINDS) -> None:
-    """Refuses files that don't follow one another, by their headers and sizes; among pipes that is seen as they are
-    read."""
-    if len(paths) == 1 or not all(map(os.path.isfile, paths)):
-        return
+def spectra_in(paths: Sequence[str], kinds: dict[str, str] = KINDS) -> int:
+    """How many spectra files have, by their headers and sizes; those that don't follow one another are refused."""
     first, count = None, 0
     for path in paths:
         with opened(path) as file:
@@ -140,6 +138,7 @@ def check_files(paths: Sequence[str], kinds: dict[str, str] = KINDS) -> None:
             first = first or bank
             check_follows(source, bank, first, count)
             count += (os.path.getsize(path) - file.tell()) * 8 // (bank.in_one * bank.bits)
+    return count
 
 
 def check_follows(source: Source, bank: Filterbank, first: Filterbank, count: int) -> None:

@@ -17,7 +17,7 @@ from .arrays import Array
 from .bad_channels import file_numbers, stand_out
 from .cluster import scripts
 from .conversion import Values, convert
-from .fil import check_files
+from .fil import spectra_in
 from .headers import TAKEN, Header, fields_of, header_text
 from .masks import mask_text
 from .noise import FORM_WORDS, form_of, measure
@@ -97,14 +97,14 @@ def tried(converter: str, paths: Sequence[str], folder: str) -> tuple[Samples, i
         # such a file can't be cut anywhere
         spectra = tried_fits(paths, output)
         return Samples([output]), spectra
-    if converter == "psr_fil":
-        check_files(paths)
+    known = spectra_in(paths) if converter == "psr_fil" else None
     with opened(paths[0]) as file, open(front, "wb") as cut:
         some = file.read(TRIED)
         cut.write(some)
     converted(conversion(converter, [front], output))
     samples = Samples([output])
-    return samples, int(samples.spectra * sum(map(os.path.getsize, paths)) / len(some))
+    about = int(samples.spectra * sum(map(os.path.getsize, paths)) / len(some))
+    return samples, about if known is None else known
 
 
 class Sampled:

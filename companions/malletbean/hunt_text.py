@@ -205,7 +205,7 @@ def cut_line(hunt: Hunt) -> str:
     left = [f"spectra farther than {hunt.clip:g} deviations off"] if hunt.clip is not None else []
     if hunt.bursts:
         seconds = sum(one.until - one.begin for one in hunt.bursts)
-        left.append(f"{len(hunt.bursts)} bursts of interference in parts of the band, {seconds:.2f} s")
+        left.append(f"bursts of interference in parts of the band: {len(hunt.bursts)}, {seconds:.2f} s")
     for search in hunt.searches:
         if search.raised:
             seconds = sum(one.until - one.first for one in search.raised) * search.average * hunt.observation.tsamp
