@@ -15,7 +15,7 @@ import test_fits
 from conftest import HERE
 from malletbean import hunt
 from malletbean.hunt import psr_hunt
-from malletbean.hunt_input import converter_of, masked_megahertz
+from malletbean.hunt_input import converted, converter_of, masked_megahertz
 from malletbean.headers import header
 from malletbean.program import run
 from malletbean.refusal import Refusal
@@ -113,6 +113,15 @@ def test_hunts_are_the_same(forms: dict[str, list[str]], tmp_path: Path, monkeyp
         found.append({path.name: path.read_bytes() for path in folder.glob("*.text")})
     assert found[0] == found[1] and any(b"PULSE" in text for text in found[0].values())
     assert not (folder / "observation.dada").exists()
+
+
+def test_a_conversion_is_shown(tmp_path: Path) -> None:
+    script, out, seen = tmp_path / "turn", tmp_path / "out", list[int]()
+    script.write_text(f"#!/bin/bash\nprintf half > '{tmp_path}'/.$$.out\nsleep 0.5\n"
+                      f"mv '{tmp_path}'/.$$.out '{out}'\necho said >&2\n")
+    script.chmod(0o755)
+    assert converted([str(script), str(out)], seen.append) == "said\n"
+    assert 4 in seen and out.read_text() == "half"
 
 
 @needs_search
