@@ -74,8 +74,8 @@ def test_a_file_that_is_too_short_is_named(forms: dict[str, list[str]], tmp_path
 
 
 def test_filterbanks_that_do_not_follow_one_another(forms: dict[str, list[str]], tmp_path: Path,
-                                                     monkeypatch: pytest.MonkeyPatch,
-                                                     capsys: pytest.CaptureFixture[str]) -> None:
+                                                    monkeypatch: pytest.MonkeyPatch,
+                                                    capsys: pytest.CaptureFixture[str]) -> None:
     """They are refused before any is turned."""
     words = [*forms["psr_fil"], *forms["psr_fil"], "--dm", "0", "20", "-o", str(tmp_path / "hunt")]
     assert hunted(monkeypatch, *words, "--dry-run") == hunted(monkeypatch, *words) == 3
