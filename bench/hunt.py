@@ -265,8 +265,8 @@ def main() -> None:
     asked, words = parser.parse_known_args()
     with tempfile.TemporaryDirectory(prefix="hunt.") as made:
         folder = asked.folder or made
-        print("| Receiver | S/N 10 and more | 8 and more | flagged alone | false candidates an hour | of S/N 8 | flagged "
-              "| DM within 1 error, 3 errors | time | memory |")
+        print("| Receiver | S/N 10 and more | 8 and more | flagged alone | false candidates an hour | of S/N 8 "
+              "| flagged | DM within 1 error, 3 errors | time | memory |")
         print("|---|---|---|---|---|---|---|---|---|---|")
         missed = []
         for number in asked.receivers:

@@ -41,7 +41,7 @@ def narrow_in_level(path: str, hunt: Hunt, search: SearchPass, rows: Array) -> A
 
 def strengths(values: Array, head: Header, entries: Array, box: tuple[int, int],
               noise: tuple[float, float]) -> tuple[Array, Array]:
-    """What a box adds above the mean in each channel that is not masked, the highest first, and the variance of that."""
+    """What a box adds above the mean in each channel that is not masked, the highest first, and its variance."""
     end, width = box
     firsts, cells = end - width + 1 - entries[-1] + entries[:-1], np.diff(entries) + 1
     above, variances = np.zeros(head.channels), np.zeros(head.channels)

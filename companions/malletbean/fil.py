@@ -27,6 +27,8 @@ def psr_fil(words: Sequence[str]) -> None:
     """Writes the DADA file that the words ask for."""
     asked = parsed(words)
     kinds = KINDS | dict(asked.keyword or [])
+    if len(asked.files) > 1 and all(map(os.path.isfile, asked.files)):
+        spectra_in(asked.files, kinds)
     with ExitStack() as stack:
         source = Source(asked.files[0], stack.enter_context(opened(asked.files[0])), kinds)
         banks = Filterbanks(asked.files, source, asked.only, stack)
@@ -124,6 +126,19 @@ def chosen_ifs(source: Source, bank: Filterbank, only: int | None) -> tuple[int,
     if bank.ifs not in (1, 2):
         raise source.refused(f"it has {bank.ifs} IFs: choose one with --if K, K from 0 on")
     return tuple(range(bank.ifs))
+
+
+def spectra_in(paths: Sequence[str], kinds: dict[str, str] = KINDS) -> int:
+    """How many spectra files have, by their headers and sizes; those that don't follow one another are refused."""
+    first, count = None, 0
+    for path in paths:
+        with opened(path) as file:
+            source = Source(path, file, kinds)
+            bank = source.bank()
+            first = first or bank
+            check_follows(source, bank, first, count)
+            count += (os.path.getsize(path) - file.tell()) * 8 // (bank.in_one * bank.bits)
+    return count
 
 
 def check_follows(source: Source, bank: Filterbank, first: Filterbank, count: int) -> None:

@@ -240,8 +240,8 @@ def header_of(path: str, fields: dict[str, str], size: int, data_bytes: int) -> 
         if not is_taken(keyword, numbers):
             fault = "OutOfProfile" if keyword in ("NBIT", "NPOL", "NDIM") else "OutOfRange"
             can_be_turned = fault == "OutOfProfile" or keyword == "NCHAN" and numbers[keyword] > TAKEN["NCHAN"][-1]
-            raise refused(path, f"{fault} {keyword}" + (": psr_dada may turn it into a file that is searched"
-                                                       if can_be_turned else ""))
+            advice = ": psr_dada may turn it into a file that is searched" if can_be_turned else ""
+            raise refused(path, f"{fault} {keyword}{advice}")
     width, channels = abs(numbers["BW"]), numbers["NCHAN"]
     if width < 1000 * channels:
         raise refused(path, f"TooNarrow {width} {channels}")

@@ -13,8 +13,9 @@ import subprocess
 import sys
 import time
 from collections.abc import Iterator, Sequence
-from contextlib import contextmanager, suppress
+from contextlib import closing, contextmanager, suppress
 from dataclasses import dataclass, field, replace
+from functools import partial
 from operator import attrgetter
 
 import numpy as np
@@ -57,7 +58,7 @@ CONVERTED = "observation.dada"
 def psr_hunt(words: Sequence[str]) -> None:
     """Hunts for what the words ask for."""
     asked = parsed(words)
-    begun = time.monotonic()
+    begun, count = time.monotonic(), 0
     paths = [os.path.abspath(path) for path in asked.files]
     converter = converter_of(paths)
     if asked.dry_run or not os.path.exists(os.path.join(asked.folder, NAME)):
@@ -66,10 +67,11 @@ def psr_hunt(words: Sequence[str]) -> None:
             print(hunt.plan)
             return
         check_room(asked, hunt, head, converter is not None)
+        count = head.data_bytes
     check_engine(asked)
     programs = programs_of(converter)
     with hunt_folder(asked.folder) as folder:
-        hunt = begun_hunt(asked, folder, paths, converter, programs)
+        hunt = begun_hunt(asked, folder, paths, converter, programs, count)
         if os.path.exists(os.path.join(folder, "summary")):
             sys.stdout.write(bytes_of(os.path.join(folder, "summary")).decode())
             return
@@ -227,8 +229,8 @@ def hunt_folder(path: str) -> Iterator[str]:
 
 
 def begun_hunt(asked: argparse.Namespace, folder: str, paths: Sequence[str], converter: str | None,
-               programs: tuple[Program, ...]) -> Hunt:
-    """The hunt of a folder: the one that an earlier call began, or a new one."""
+               programs: tuple[Program, ...], count: int) -> Hunt:
+    """The hunt of a folder: the one that an earlier call began, or a new one of so many bytes."""
     if os.path.exists(os.path.join(folder, NAME)):
         hunt = read_manifest(folder)
         if hunt.arguments != meaning(asked):
@@ -240,7 +242,10 @@ def begun_hunt(asked: argparse.Namespace, folder: str, paths: Sequence[str], con
     own = list(paths)
     if converter is not None:
         own = [CONVERTED]
-        converted(conversion(converter, paths, os.path.join(folder, CONVERTED)))
+        with closing(Progress(count)) as progress:
+            said = converted(conversion(converter, paths, os.path.join(folder, CONVERTED)),
+                             partial(progress.reach, "conversion"))
+        sys.stderr.write(said)
     look = looked_at(Samples([os.path.join(folder, path) for path in own]), mask_of(asked))
     hunt = replace(hunt_of(asked, paths, own, look), programs=programs)
     write_manifest(folder, hunt)
@@ -334,19 +339,22 @@ def run_hunt(asked: argparse.Namespace, folder: str, hunt: Hunt, begun: float) -
     running = Running(folder, hunt, head, asked.cores, not asked.keep_bursts)
     write_commands(folder, hunt, head)
     engine = engine_of(asked, folder)
-    progress = Progress(predicted_seconds(hunt, head))
-    try:
-        failures = engine.run(level_tasks(folder, hunt, head), running, progress)
+    lines = list[str]()
+    with closing(Progress(predicted_seconds(hunt, head))) as progress:
+        try:
+            failures = engine.run(level_tasks(folder, hunt, head), running, progress)
+            if not failures:
+                progress.show("joins")
+                for search in running.hunt.searches:
+                    join(running, search.name)
+        finally:
+            write_manifest(folder, running.hunt)
         if not failures:
-            progress.show("joins")
-            for search in running.hunt.searches:
-                join(running, search.name)
-    finally:
-        progress.close()
-        write_manifest(folder, running.hunt)
+            progress.show("candidates and report")
+            lines = finish(asked, running, begun)
     if failures:
         raise failed(running, failures)
-    finish(asked, running, begun)
+    print("\n".join(lines))
 
 
 def check_engine(asked: argparse.Namespace) -> None:
@@ -420,20 +428,20 @@ def failure_line(failure: Failure) -> str:
     return f"{failure.task.name} failed: {failure.line}; its command: {failure.task.line}"
 
 
-def finish(asked: argparse.Namespace, running: Running, begun: float) -> None:
-    """Writes candidates and report, says what was found, and removes what is of no more use."""
+def finish(asked: argparse.Namespace, running: Running, begun: float) -> list[str]:
+    """Writes candidates, report and summary, removes what is of no more use, and answers the summary."""
     folder = running.folder
     table = write_candidates(folder)
     with workers(1) as pool:
         series = pool.submit(write_candidate_series, folder, table, MOST_SERIES)
         write_report(folder, most=MOST_PICTURES)
         series.result()
-    lines = summary_lines(folder, running.hunt, count_lines(running), time.monotonic() - begun)
+    lines = summary_lines(folder, running.hunt, running.head, count_lines(running), time.monotonic() - begun)
     if not asked.keep:
         clear(running)
     with whole_file(os.path.join(folder, "summary")) as path, open(path, "w", encoding="utf-8") as file:
         file.writelines(f"{line}\n" for line in lines)
-    print("\n".join(lines))
+    return lines
 
 
 def count_lines(running: Running) -> int:

@@ -22,8 +22,8 @@ RATE_CHANNELS, RATE_DELAYS = (16, 64, 256, 1024, 4096), (256, 1024, 4096, 8192)
 SEARCH_RATES = 15625 * np.array([
     [400, 156, 25, 3.3], [216, 111, 15, 2.8], [167, 75, 17, 2.4], [69, 39, 9.3, 2.7], [19, 15, 5.6, 2.1]])
 SEARCH_MEGABYTES = np.array([[5, 8, 22, 70], [6, 8, 25, 76], [6, 9, 27, 80], [7, 10, 31, 135], [10, 14, 40, 150]])
-# input bytes a second that psr_level and a converter take, and what psr_level needs besides a stretch
-LEVEL_RATE, CONVERT_RATE, LEVEL_MEGABYTES = 5e8, 2.5e8, 16
+# input bytes a second that psr_level takes, and what it needs besides a stretch
+LEVEL_RATE, LEVEL_MEGABYTES = 5e8, 16
 # what psr_hunt itself needs for its libraries, its tables and pictures, and the output besides lines and levels
 OWN_MEGABYTES, OWN_DISK = 400, 50_000_000
 

@@ -7,8 +7,8 @@ import re
 import subprocess
 import sys
 import tempfile
-from collections.abc import Iterator, Sequence
-from contextlib import redirect_stderr, redirect_stdout
+from collections.abc import Callable, Iterator, Sequence
+from contextlib import redirect_stderr, redirect_stdout, suppress
 from dataclasses import dataclass, replace
 
 import numpy as np
@@ -17,10 +17,12 @@ from .arrays import Array
 from .bad_channels import file_numbers, stand_out
 from .cluster import scripts
 from .conversion import Values, convert
+from .fil import spectra_in
 from .headers import TAKEN, Header, fields_of, header_text
 from .masks import mask_text
 from .noise import FORM_WORDS, form_of, measure
 from .number import scaled
+from .output import unfinished
 from .refusal import HEADER, OUTPUT, READ, Refusal, bytes_of, opened
 from .samples import Samples
 
@@ -31,6 +33,8 @@ SEARCHED = {"NBIT": ("8", "16"), "NPOL": ("1", "2"), "NDIM": ("1",), "ORDER": ("
 MOST_CHANNELS = TAKEN["NCHAN"][-1]
 # how much is looked at, and how much of a filterbank is turned to plan a hunt
 LOOKED_AT, TRIED = 64_000_000, 2**25
+# seconds between two looks at how far a converter is
+NAP = 0.1
 
 
 @dataclass(frozen=True)
@@ -80,13 +84,33 @@ def conversion(converter: str, paths: Sequence[str], output: str) -> list[str]:
     return [companion(converter), *paths, output]
 
 
-def converted(words: Sequence[str]) -> None:
-    """Runs a converter. What it says goes to standard error, and its refusal is that of the hunt."""
-    answer = subprocess.run(words, stdin=subprocess.DEVNULL, capture_output=True, text=True, errors="surrogateescape")
-    if answer.returncode:
-        line = answer.stderr.strip().splitlines()[-1:] or [f"status {answer.returncode}"]
-        raise Refusal(answer.returncode if answer.returncode > 0 else OUTPUT, line[0])
-    sys.stderr.write(answer.stderr)
+def converted(words: Sequence[str], show: Callable[[int], None] | None = None) -> str:
+    """Runs a converter, whose last word is its output, and answers what it says on standard error. Its refusal is that
+    of the hunt. Meanwhile it is shown how many bytes of the output are there."""
+    process = subprocess.Popen(words, stdin=subprocess.DEVNULL, stdout=subprocess.PIPE, stderr=subprocess.PIPE,
+                               text=True, errors="surrogateescape")
+    said = None
+    try:
+        while said is None:
+            with suppress(subprocess.TimeoutExpired):
+                said = process.communicate(timeout=NAP)[1]
+            if show is not None:
+                show(size_of(unfinished(words[-1], process.pid)))
+    except BaseException:
+        process.terminate()
+        process.wait()
+        raise
+    if process.returncode:
+        line = said.strip().splitlines()[-1:] or [f"status {process.returncode}"]
+        raise Refusal(process.returncode if process.returncode > 0 else OUTPUT, line[0])
+    return said
+
+
+def size_of(path: str) -> int:
+    """How many bytes a file has; 0 if it isn't there."""
+    with suppress(OSError):
+        return os.path.getsize(path)
+    return 0
 
 
 def tried(converter: str, paths: Sequence[str], folder: str) -> tuple[Samples, int]:
@@ -96,12 +120,14 @@ def tried(converter: str, paths: Sequence[str], folder: str) -> tuple[Samples, i
         # such a file can't be cut anywhere
         spectra = tried_fits(paths, output)
         return Samples([output]), spectra
+    known = spectra_in(paths) if converter == "psr_fil" else None
     with opened(paths[0]) as file, open(front, "wb") as cut:
         some = file.read(TRIED)
         cut.write(some)
-    converted(conversion(converter, [front], output))
+    sys.stderr.write(converted(conversion(converter, [front], output)))
     samples = Samples([output])
-    return samples, int(samples.spectra * sum(map(os.path.getsize, paths)) / len(some))
+    about = int(samples.spectra * sum(map(os.path.getsize, paths)) / len(some))
+    return samples, about if known is None else known
 
 
 class Sampled:
@@ -155,7 +181,8 @@ def looked_at(samples: Samples, mask: str | None) -> Look:
     form = form_of(samples)
     words = tuple(FORM_WORDS[form].split()) if form in FORM_WORDS else ()
     if mask is None:
-        mask = mask_text(file_numbers(head, stand_out(measure(samples, LOOKED_AT // head.spectrum_bytes, form))))
+        whole = measure(samples, LOOKED_AT // head.spectrum_bytes, form).whole
+        mask = mask_text(file_numbers(head, stand_out(whole)))
     return Look(head.without(mask), mask, words)
 
 

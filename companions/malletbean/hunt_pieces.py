@@ -1,7 +1,7 @@
 """The searches of a hunt: each pass in pieces of the time, and those that fold.
 
-A piece that has too many lines, of interference or of a bright pulsar, is divided. If it is as short as what is searched
-before it, its threshold is raised. So only the seconds that are full of lines are searched less deeply.
+A piece that has too many lines, of interference or of a bright pulsar, is divided. If it is as short as what is
+searched before it, its threshold is raised. So only the seconds that are full of lines are searched less deeply.
 """
 from __future__ import annotations
 
@@ -118,10 +118,10 @@ def fold_job(folder: str, search: SearchPass) -> Job:
     """The job of folds: only the first spectra, which are folded, are read."""
     samples = Samples([os.path.join(folder, search.level)])
     size = samples.header.size + min(search.spectra, folded_spectra(search)) * samples.header.spectrum_bytes
-    words = [os.path.join(scripts(), "part"), os.path.join(folder, search.output), "0", samples.paths[0], "0", str(size),
-             "--", program_at("psr_search"), *search_options(search, MOST_FOLDS), f"--fold-min={search.fold_min}",
-             f"--fold-max={search.fold_max}", f"--fold-rows={search.fold_rows}", f"--fold-step={search.fold_step}",
-             "/dev/stdin"]
+    words = [os.path.join(scripts(), "part"), os.path.join(folder, search.output), "0", samples.paths[0], "0",
+             str(size), "--", program_at("psr_search"), *search_options(search, MOST_FOLDS),
+             f"--fold-min={search.fold_min}", f"--fold-max={search.fold_max}", f"--fold-rows={search.fold_rows}",
+             f"--fold-step={search.fold_step}", "/dev/stdin"]
     return Job(search.name, shlex.join(words))
 
 

@@ -213,8 +213,8 @@ def level_name(average: int, zero_dm: bool) -> str:
     return f"k{average}" if zero_dm else f"k{average}-plain"
 
 
-def planned(head: Header, sought: Sought, has_plain: bool = False) -> tuple[tuple[LevelFile, ...],
-                                                                          tuple[SearchPass, ...]]:
+def planned(head: Header, sought: Sought,
+            has_plain: bool = False) -> tuple[tuple[LevelFile, ...], tuple[SearchPass, ...]]:
     """The levels, still without their commands, and the passes over an observation whose header counts all its
     spectra; `has_plain` asks for the pass without zero DM too."""
     if sought.dm_high > greatest_dm(head):

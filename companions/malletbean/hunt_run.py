@@ -46,16 +46,21 @@ class Flow(Protocol):
 
 
 class Progress:
-    """A bar over the predicted seconds of all jobs, with the time that is left."""
+    """A bar over the predicted seconds of all jobs, or the bytes of a file, with the time that is left."""
 
     def __init__(self, total: float) -> None:
-        self.done, self.begun = 0.0, time.monotonic()
-        self.bar: Any = tqdm(total=round(total, 1), disable=None, leave=False, dynamic_ncols=True,
+        self.done = 0.0
+        self.bar: Any = tqdm(total=total, disable=None, leave=False, dynamic_ncols=True,
                              bar_format="{desc}{percentage:3.0f}% |{bar}| {elapsed}, {remaining} left")
 
     def add(self, task: Task) -> None:
         """A job is done."""
         self.done += task.seconds
+
+    def reach(self, what: str, done: float) -> None:
+        """Draws the bar up to a place."""
+        self.done = done
+        self.show(what)
 
     def show(self, what: str, running: Sequence[tuple[Task, float]] = ()) -> None:
         """Draws the bar; of each job that runs, it is told for how long."""

@@ -32,7 +32,8 @@ def plan_text(hunt: Hunt, head: Header, cores: int, not_folded: Sequence[str], c
              f"length       {sky.spectra} spectra of {sky.tsamp * 1e6:.6g} us, {sky.spectra * sky.tsamp:.3f} s",
              f"mask         {mask_line(hunt, head)}",
              f"looked for   DM {hunt.dm_low:g} to {hunt.dm_high:g}, pulses of {width_range(hunt)} ms, true S/N from "
-             f"{hunt.snr:g} on", "", "level  averaged  spectra of ms  levelled by s  zero DM"]
+             f"{hunt.snr:g} on", *(f"not found    {one}" for one in too_long(hunt, head)), "",
+             "level  averaged  spectra of ms  levelled by s  zero DM"]
     for level in hunt.levels:
         seconds = level_header(head, level.average).seconds
         lines.append(f"{os.path.basename(level.path)[:-5]:<6} {level.average:>8}  {seconds * 1000:>13.6g}  "
@@ -41,6 +42,14 @@ def plan_text(hunt: Hunt, head: Header, cores: int, not_folded: Sequence[str], c
     lines += [pass_line(head, one) for one in hunt.searches if not one.fold_max]
     lines += fold_lines(hunt, head, not_folded)
     return "\n".join([*lines, "", *cost_lines(hunt, head, cores, converted)])
+
+
+def too_long(hunt: Hunt, head: Header) -> list[str]:
+    """Which pulses take longer across the band than the observation, if any that are looked for do."""
+    longest = head.dm(head.spectra)
+    if hunt.dm_high <= longest:
+        return []
+    return [f"pulses above DM {longest:.1f}: they take longer across the band than the observation"]
 
 
 def named(hunt: Hunt) -> str:
@@ -137,7 +146,7 @@ def room_missing(hunt: Hunt, head: Header, folder: str, cores: int, converted: b
     return None
 
 
-def summary_lines(folder: str, hunt: Hunt, lines: int, seconds: float) -> list[str]:
+def summary_lines(folder: str, hunt: Hunt, head: Header, lines: int, seconds: float) -> list[str]:
     """The summary at the end of a hunt."""
     sky, found = hunt.observation, candidates_in(folder)
     flagged = sum(bool(one.get("flag")) for one in found)
@@ -145,6 +154,7 @@ def summary_lines(folder: str, hunt: Hunt, lines: int, seconds: float) -> list[s
         f"searched    {named(hunt)}",
         f"            {sky.spectra * sky.tsamp:.1f} s at DM {hunt.dm_low:g} to {hunt.dm_high:g}, pulses of "
         f"{width_range(hunt)} ms, true S/N from {hunt.snr:g} on, in {duration(seconds)}",
+        *(f"            without {one}" for one in too_long(hunt, head)),
         f"found       {len(found)} candidates, {flagged} of them flagged, from {lines} lines",
         *(f"{name:<11} {strongest_line(one)}" for name, one in strongest(found)),
         *fold_summary(folder, hunt),
@@ -195,12 +205,13 @@ def cut_line(hunt: Hunt) -> str:
     left = [f"spectra farther than {hunt.clip:g} deviations off"] if hunt.clip is not None else []
     if hunt.bursts:
         seconds = sum(one.until - one.begin for one in hunt.bursts)
-        left.append(f"{len(hunt.bursts)} bursts of interference in parts of the band, {seconds:.2f} s")
+        left.append(f"bursts of interference in parts of the band: {len(hunt.bursts)}, {seconds:.2f} s")
     for search in hunt.searches:
         if search.raised:
             seconds = sum(one.until - one.first for one in search.raised) * search.average * hunt.observation.tsamp
             least, most = min(one.snr for one in search.raised), max(one.snr for one in search.raised)
-            left.append(f"{search.name}: {seconds:.1f} s had too many lines: searched from S/N {least:g} to {most:g} on")
+            left.append(f"{search.name}: {seconds:.1f} s had too many lines: searched from S/N {least:g} to {most:g} "
+                        "on")
     return "; ".join(left) or "nothing"
 
 

@@ -18,7 +18,7 @@ from .hunt_plan import Sought, greatest_dm, planned, power_above
 from .level import FAST, LEVELS, Level
 from .manifest import LevelFile, SearchPass
 from .masks import mask_text
-from .noise import FORM_WORDS, FORMS, MOST_BYTES, PIECES, Measured, form_of, measure, measure_stream
+from .noise import FORM_WORDS, FORMS, MOST_BYTES, PIECES, Estimates, Measured, form_of, measure, measure_stream
 from .number import decimals_beyond, scaled
 from .paths import GREATEST_DELAY, path_cells
 from .program import Words
@@ -49,6 +49,8 @@ class Look:
     name: str
     head: Header
     measured: Measured
+    # the same without the spectra that have bursts
+    quiet: Measured
     # one of FORMS
     form: str
     # the mask of the channels that stand out, and the one that was given or else that one
@@ -71,6 +73,13 @@ class Look:
     def drift(self) -> float:
         """How far printed ratios are moved by a drift of the mean, as it is printed."""
         return round(drift_ratio(self.head, self.measured, self.max_delay), 1)
+
+    @property
+    def has_bursts(self) -> bool:
+        """Whether bursts alone keep the file from being searched."""
+        if self.form != "<u" or self.quiet.deviation == 0:
+            return False
+        return max(ratio(self.head, self.quiet, self.max_delay) for ratio in (uneven_ratio, drift_ratio)) < LITTLE_MOVED
 
     @property
     def has_noisy_mask(self) -> bool:
@@ -135,18 +144,18 @@ def look_at_file(asked: argparse.Namespace) -> tuple[Look, str]:
     if head.spectra < 2:
         raise too_few(asked.file, head)
     form = form_of(samples)
-    measured = measure(samples, int(asked.megabytes * 1e6) // head.spectrum_bytes, form)
-    part = "all" if measured.spectra == head.spectra else f"{PIECES} pieces of the"
-    return look_of(asked, shlex.quote(asked.file), head, measured, form), part
+    found = measure(samples, int(asked.megabytes * 1e6) // head.spectrum_bytes, form)
+    part = "all" if found.whole.spectra == head.spectra else f"{PIECES} pieces of the"
+    return look_of(asked, shlex.quote(asked.file), head, found, form), part
 
 
 def look_at_pipe(asked: argparse.Namespace) -> tuple[Look, str]:
     """What is seen of a pipe."""
     with Stream([asked.file], MOST_BYTES) as stream:
-        head, measured, form = measure_stream(stream)
-    if measured is None:
+        head, found, form = measure_stream(stream)
+    if found is None:
         raise too_few(asked.file, head)
-    return look_of(asked, "FILE", head, measured, form), "all"
+    return look_of(asked, "FILE", head, found, form), "all"
 
 
 def too_few(path: str, head: Header) -> Refusal:
@@ -154,11 +163,11 @@ def too_few(path: str, head: Header) -> Refusal:
     return refused(path, f"its data have {head.data_bytes} bytes, fewer than two spectra")
 
 
-def look_of(asked: argparse.Namespace, name: str, head: Header, measured: Measured, form: str) -> Look:
+def look_of(asked: argparse.Namespace, name: str, head: Header, found: Estimates, form: str) -> Look:
     """What is seen, with the mask that was given or stands out."""
-    to_try = mask_text(file_numbers(head, stand_out(measured)))
+    to_try = mask_text(file_numbers(head, stand_out(found.whole)))
     mask = to_try if asked.mask is None else asked.mask
-    return Look(name, head.without(mask), measured, form, to_try, mask, asked.dm)
+    return Look(name, head.without(mask), found.whole, found.quiet, form, to_try, mask, asked.dm)
 
 
 def said(look: Look) -> Iterator[tuple[str, str]]:
@@ -276,8 +285,10 @@ def noise_words(measured: Measured) -> str:
 def level_first(look: Look, level: LevelFile) -> str:
     """How psr_level makes a file that can be searched."""
     head, measured = look.head, look.measured
-    if any(are_at(one, head, measured) for one in (LEVELS[head.bits], FAST) if one.bits == head.bits):
-        return f"psr_level again, from the file as it was, with fewer --spectra and its other options: {FALSE_LINES}"
+    usual = [one for one in (LEVELS[head.bits], FAST) if one.bits == head.bits]
+    if any(are_at(one, head, some) for one in usual for some in (measured, look.quiet)):
+        more = "with --zero-dm or --clip 6, against bursts," if look.has_bursts else "with fewer --spectra"
+        return f"psr_level again, from the file as it was, {more} and its other options: {FALSE_LINES}"
     # a mean that moves ratios by `drift` over the data moves them by about 1 over a part of these, if it goes evenly;
     # half of that is taken, for one that goes up and down
     steady = measured.reach / max(2 * look.drift, 1)

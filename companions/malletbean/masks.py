@@ -28,7 +28,7 @@ def masked_channels(text: str, channels: int) -> Array:
     for item in [] if text == "none" else text.split(","):
         match = ITEM.fullmatch(item)
         if match is None:
-            raise Refusal(MASK, f"mask refused: {text} is no mask")
+            raise Refusal(MASK, f"mask refused: {text} is no mask like 3,17-19, or none")
         first, last = sorted((int(match[1]), int(match[2] or match[1])))
         if last >= channels:
             raise Refusal(MASK, f"mask refused: there are {channels} channels, and it names {last}")

@@ -9,6 +9,7 @@ import numpy as np
 
 from .arrays import Array
 from .headers import Header
+from .masks import is_far
 from .samples import Samples
 from .stream import Stream
 
@@ -16,6 +17,8 @@ from .stream import Stream
 VALUES_AT_A_TIME = 2**20
 # in how many pieces the data are held against each other; of a pipe in up to twice as many
 PIECES = 16
+# in how many parts of the band bursts are looked for
+PARTS = 16
 # the forms that values may have; psr_search takes the first
 FORMS = {"<u": "unsigned, the low byte first", "<i": "signed", ">u": "unsigned, the high byte first",
          ">i": "signed, the high byte first"}
@@ -80,10 +83,45 @@ class Piece:
         return variances
 
 
-def piece_of(values: Array) -> Piece:
+@dataclass(frozen=True)
+class Divided:
+    """A piece, and that of its spectra without bursts."""
+
+    whole: Piece
+    quiet: Piece
+
+    def __add__(self, other: Divided) -> Divided:
+        return Divided(self.whole + other.whole, self.quiet + other.quiet)
+
+
+@dataclass(frozen=True)
+class Estimates:
+    """Estimates from all spectra that were read, and from those without bursts."""
+
+    whole: Measured
+    quiet: Measured
+
+
+def divided(values: Array) -> Divided:
     """The piece that has these values: by spectrum, channel and polarisation, the highest channel first."""
     samples = values.sum(axis=2, dtype=np.float64)
+    whole = piece_of(samples)
+    are_kept = are_quiet(samples, whole)
+    return Divided(whole, whole if are_kept.all() else piece_of(samples[are_kept]))
+
+
+def piece_of(samples: Array) -> Piece:
+    """The piece that has these samples, spectra in rows."""
     return Piece(len(samples), samples.sum(axis=0), np.einsum("tc,tc->c", samples, samples))
+
+
+def are_quiet(samples: Array, piece: Piece) -> Array:
+    """Which spectra of a piece have no burst: no part of the band whose sum lies far off; all if those are few."""
+    begins = np.linspace(0, samples.shape[1], min(PARTS, samples.shape[1]), endpoint=False).astype(int)
+    sums = np.add.reduceat(samples, begins, axis=1)
+    errors = np.sqrt(np.add.reduceat(piece.variances, begins))
+    quiet: Array = ~np.any([is_far(one, error) for one, error in zip(sums.T, errors)], axis=0)
+    return quiet if 2 * quiet.sum() >= len(quiet) else np.ones(len(quiet), bool)
 
 
 def estimate(pieces: list[Piece], reach: int) -> Measured:
@@ -95,7 +133,13 @@ def estimate(pieces: list[Piece], reach: int) -> Measured:
                     piece_means)
 
 
-def measure(samples: Samples, most: int, kind: str = "<u") -> Measured:
+def estimates(pieces: list[Divided], reach: int) -> Estimates:
+    """Estimates from pieces that lie evenly in so many spectra, with and without bursts."""
+    whole, quiet = [piece.whole for piece in pieces], [piece.quiet for piece in pieces]
+    return Estimates(estimate(whole, reach), estimate(quiet, reach))
+
+
+def measure(samples: Samples, most: int, kind: str = "<u") -> Estimates:
     """Estimates from pieces that lie evenly in the data, of `most` spectra at the most, but two at least.
 
     The kind of values is one of FORMS.
@@ -107,10 +151,10 @@ def measure(samples: Samples, most: int, kind: str = "<u") -> Measured:
     at_a_time = max(1, VALUES_AT_A_TIME // (head.channels * head.polarisations))
     pieces = []
     for begin, count in zip(begins.tolist(), np.diff(bounds).tolist()):
-        parts = [piece_of(highest_first(head, samples.values(first, min(at_a_time, begin + count - first), kind)))
+        parts = [divided(highest_first(head, samples.values(first, min(at_a_time, begin + count - first), kind)))
                  for first in range(begin, begin + count, at_a_time)]
         pieces.append(sum(parts[1:], parts[0]))
-    return estimate(pieces, samples.spectra)
+    return estimates(pieces, samples.spectra)
 
 
 def form_of(samples: Samples) -> str:
@@ -132,18 +176,18 @@ def highest_first(head: Header, values: Array) -> Array:
     return values if head.is_falling else values[:, ::-1]
 
 
-def measure_stream(stream: Stream) -> tuple[Header, Measured | None, str]:
+def measure_stream(stream: Stream) -> tuple[Header, Estimates | None, str]:
     """The header of a stream, estimates from all of its data, and the one of FORMS that they have.
 
     There are no estimates where it has fewer than two spectra.
     """
     head = stream.header
-    pieces: list[Piece] = []
+    pieces: list[Divided] = []
     form, in_piece = "<u", 1
     for number, values in enumerate(parts_of(stream)):
         if number == 0:
             form = form_of_values(values)
-        latest = piece_of(highest_first(head, values.view(f"{form}{values.dtype.itemsize}")))
+        latest = divided(highest_first(head, values.view(f"{form}{values.dtype.itemsize}")))
         if number % in_piece:
             pieces[-1] += latest
         else:
@@ -152,7 +196,7 @@ def measure_stream(stream: Stream) -> tuple[Header, Measured | None, str]:
             pieces = [first + second for first, second in zip(pieces[::2], pieces[1::2])]
             in_piece *= 2
     head = replace(head, data_bytes=stream.count)
-    return head, estimate(pieces, head.spectra) if head.spectra > 1 else None, form
+    return head, estimates(pieces, head.spectra) if head.spectra > 1 else None, form
 
 
 def parts_of(stream: Stream) -> Iterator[Array]:

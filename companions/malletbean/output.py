@@ -40,7 +40,7 @@ def whole_file(path: str) -> Iterator[str]:
 @contextmanager
 def written_beside(place: str, path: str) -> Iterator[str]:
     """A name beside a place for a file that is not whole yet; whatever has that name in the end is removed."""
-    beside = os.path.join(os.path.dirname(place), f".{os.getpid()}.{os.path.basename(place)}")
+    beside = unfinished(place, os.getpid())
     try:
         yield beside
     except OSError as fault:
@@ -48,6 +48,11 @@ def written_beside(place: str, path: str) -> Iterator[str]:
     finally:
         with suppress(OSError):
             os.unlink(beside)
+
+
+def unfinished(place: str, process: int) -> str:
+    """The name of a file that a process writes beside its place."""
+    return os.path.join(os.path.dirname(place), f".{process}.{os.path.basename(place)}")
 
 
 def is_there(path: str) -> Refusal:

@@ -142,7 +142,8 @@ DM against time.</p>
 <p><code>psr_hunt {{ arguments }}</code></p>
 <details{{ " open" if commands | length < 30 else "" }}><summary>{{ commands | length }} commands</summary>
 <div class="scroll"><table>
-<thead><tr><th class="text name">name</th><th>seconds</th><th>status</th><th class="text">command</th></tr></thead><tbody>
+<thead><tr><th class="text name">name</th><th>seconds</th><th>status</th><th class="text">command</th></tr></thead>
+<tbody>
 {%- for one in commands %}<tr><td class="text">{{ one.name }}</td>
 <td>{{ "%.2f" | format(one.seconds) }}</td><td>{{ one.status }}</td>
 <td class="text"><code>{{ one.line }}</code></td></tr>{% endfor %}

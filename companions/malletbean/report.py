@@ -126,8 +126,8 @@ def observation_lines(hunt: Hunt) -> list[tuple[str, str]]:
         ("Mask", hunt.mask), ("Zero DM", "the mean of each spectrum was taken out" + (
             "" if hunt.zero_dm else ", except in levels whose searches say no")),
         ("Clip", "no" if hunt.clip is None else f"spectra farther than {hunt.clip:g} deviations off"),
-        ("Bursts", "not looked for" if hunt.bursts is None else f"{len(hunt.bursts)} bursts of interference in parts of "
-                                                                "the band were replaced"),
+        ("Bursts", "not looked for" if hunt.bursts is None else
+         f"of interference in parts of the band, replaced by the mean: {len(hunt.bursts)}"),
     ]
 
 

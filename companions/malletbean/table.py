@@ -65,7 +65,8 @@ def write_tables(asked: argparse.Namespace, head: Header, pulses: Array, folds: 
 
 def parsed(words: Sequence[str]) -> argparse.Namespace:
     """The words of the command."""
-    parser = Words(prog="psr_table", description="Writes the lines of a search's output, or its candidates, as a table.")
+    parser = Words(prog="psr_table",
+                   description="Writes the lines of a search's output, or its candidates, as a table.")
     add_search_words(parser)
     parser.add_argument("-o", "--output", metavar="NAME",
                         help="NAME.csv, NAME.npz or NAME.singlepulse, with --best also NAME.json or NAME.cand; "

@@ -43,15 +43,16 @@ def test_a_burst_is_found_and_replaced(tmp_path: Path) -> None:
     found = bursts_of(str(tmp_path), hunt, hunt.levels[0])
     assert {(one.first_channel, one.stop_channel) for one in found} == {(64, 80), (80, 96)}
     for one in found:
-        assert one.begin / 1.024e-3 == pytest.approx(1000, abs=5) and one.until / 1.024e-3 == pytest.approx(1020, abs=15)
-        assert one.snr > 20
+        begin, until = one.begin / 1.024e-3, one.until / 1.024e-3
+        assert begin == pytest.approx(1000, abs=5) and until == pytest.approx(1020, abs=15) and one.snr > 20
     before = path.read_bytes()
     hunt = replace(hunt, bursts=found)
     quiet(str(tmp_path), hunt, hunt.levels[0])
     after = path.read_bytes()
     assert after[:4096] == before[:4096] and len(after) == len(before)
     changed = np.flatnonzero(np.frombuffer(after, np.uint8) != np.frombuffer(before, np.uint8)) - 4096
-    assert set(changed % CHANNELS) == set(range(64, 96)) and (np.frombuffer(after, np.uint8)[changed + 4096] == 14).all()
+    assert set(changed % CHANNELS) == set(range(64, 96))
+    assert (np.frombuffer(after, np.uint8)[changed + 4096] == 14).all()
     # nothing is left, and a line of the commands does the same
     assert bursts_of(str(tmp_path), hunt, hunt.levels[0]) == ()
     path.write_bytes(before)

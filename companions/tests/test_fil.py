@@ -11,7 +11,7 @@ import pytest
 
 import made
 from malletbean import fil
-from malletbean.fil import psr_fil
+from malletbean.fil import psr_fil, spectra_in
 from malletbean.headers import header
 from malletbean.refusal import Refusal
 from malletbean.samples import Samples
@@ -263,6 +263,9 @@ def test_files_that_follow_one_another(tmp_path: Path) -> None:
     with pytest.raises(Refusal, match="its bits differs from that of the first file"):
         psr_fil([parts[0], write(tmp_path / "wide.fil", b"", nbits=16), str(tmp_path / "other.dada")])
     assert not (tmp_path / "other.dada").exists()
+    assert spectra_in(parts) == 3000
+    with pytest.raises(Refusal, match="begins -1000.0 spectra after the end of the file before it"):
+        spectra_in([parts[0], parts[0]])
 
 
 def test_coarse_floats(tmp_path: Path, capsys: pytest.CaptureFixture[str]) -> None:

@@ -1,4 +1,5 @@
-"""A hunt as it is run: on the cores of this machine and by the engines of cluster/, stopped, failed and gone on with."""
+"""A hunt as it is run: on the cores of this machine and by the engines of cluster/; stopped, failed, and gone on
+with."""
 from __future__ import annotations
 
 import os
@@ -108,7 +109,8 @@ def test_a_hunt(observation: str, tmp_path: Path, monkeypatch: pytest.MonkeyPatc
 
 
 @needs_search
-def test_a_report_is_written_and_what_is_of_no_more_use_goes(observation: str, tmp_path: Path, monkeypatch: pytest.MonkeyPatch) -> None:
+def test_a_report_is_written_and_what_is_of_no_more_use_goes(observation: str, tmp_path: Path,
+                                                             monkeypatch: pytest.MonkeyPatch) -> None:
     assert hunted(monkeypatch, observation, "--dm", "0", "20", "-o", str(tmp_path / "hunt")) == 0
     left = [path for path in (tmp_path / "hunt").rglob("*") if path.suffix in (".dada", ".error", ".out")]
     assert left == [] and not list((tmp_path / "hunt").glob("searches/*/*.text"))

@@ -15,7 +15,7 @@ import test_fits
 from conftest import HERE
 from malletbean import hunt
 from malletbean.hunt import psr_hunt
-from malletbean.hunt_input import converter_of, masked_megahertz
+from malletbean.hunt_input import converted, converter_of, masked_megahertz
 from malletbean.headers import header
 from malletbean.program import run
 from malletbean.refusal import Refusal
@@ -28,7 +28,8 @@ CHANNELS, SPECTRA = 64, 8192
 def forms(tmp_path_factory: pytest.TempPathFactory) -> dict[str, list[str]]:
     """The files of one observation, by the companion that turns them."""
     folder = tmp_path_factory.mktemp("forms")
-    values = made.make(folder / "sky.dada", number=3, channels=CHANNELS, spectra=SPECTRA, delay=100, period=1000, height=4)
+    values = made.make(folder / "sky.dada", number=3, channels=CHANNELS, spectra=SPECTRA, delay=100, period=1000,
+                       height=4)
     data = values.astype("u1").tobytes()
     rows = values.reshape(8, -1, 1, CHANNELS)
     step = -400 / CHANNELS
@@ -72,6 +73,22 @@ def test_a_file_that_is_too_short_is_named(forms: dict[str, list[str]], tmp_path
     assert line in said and str(path) in said and "front" not in said
 
 
+def test_filterbanks_that_do_not_follow_one_another(forms: dict[str, list[str]], tmp_path: Path,
+                                                    monkeypatch: pytest.MonkeyPatch,
+                                                    capsys: pytest.CaptureFixture[str]) -> None:
+    """They are refused before any is turned."""
+    words = [*forms["psr_fil"], *forms["psr_fil"], "--dm", "0", "20", "-o", str(tmp_path / "hunt")]
+    assert hunted(monkeypatch, *words, "--dry-run") == hunted(monkeypatch, *words) == 3
+    assert "begins -8192.0 spectra after the end of the file before it" in capsys.readouterr().err
+
+
+@pytest.mark.parametrize("high, is_said", [("20", False), ("500", True)])
+def test_a_sweep_past_the_data(forms: dict[str, list[str]], tmp_path: Path, monkeypatch: pytest.MonkeyPatch,
+                               capsys: pytest.CaptureFixture[str], high: str, is_said: bool) -> None:
+    words = [*forms["psr_fil"], "--dm", "0", high, "-o", str(tmp_path / "hunt"), "--dry-run"]
+    assert hunted(monkeypatch, *words) == 0
+    assert ("not found    pulses above DM 399.6: they take longer" in capsys.readouterr().out) == is_said
+
 
 @pytest.mark.parametrize("name", ["psr_fil", "psr_fits"])
 def test_dry_runs_are_the_same(forms: dict[str, list[str]], tmp_path: Path, monkeypatch: pytest.MonkeyPatch,
@@ -98,8 +115,18 @@ def test_hunts_are_the_same(forms: dict[str, list[str]], tmp_path: Path, monkeyp
     assert not (folder / "observation.dada").exists()
 
 
+def test_a_conversion_is_shown(tmp_path: Path) -> None:
+    script, out, seen = tmp_path / "turn", tmp_path / "out", list[int]()
+    script.write_text(f"#!/bin/bash\nprintf half > '{tmp_path}'/.$$.out\nsleep 0.5\n"
+                      f"mv '{tmp_path}'/.$$.out '{out}'\necho said >&2\n")
+    script.chmod(0o755)
+    assert converted([str(script), str(out)], seen.append) == "said\n"
+    assert 4 in seen and out.read_text() == "half"
+
+
 @needs_search
-def test_stopped_while_it_is_turned(forms: dict[str, list[str]], tmp_path: Path, monkeypatch: pytest.MonkeyPatch) -> None:
+def test_stopped_while_it_is_turned(forms: dict[str, list[str]], tmp_path: Path,
+                                    monkeypatch: pytest.MonkeyPatch) -> None:
     folder = tmp_path / "hunt"
     folder.mkdir()
     (folder / ".99999999.observation.dada").write_text("a part")

@@ -9,8 +9,8 @@ import pytest
 from malletbean.headers import Header, header_of
 from malletbean.hunt_cost import memory_bytes, search_seconds
 from malletbean.hunt_folds import folds_planned
-from malletbean.hunt_plan import (GREATEST_DELAY, LONG_DELAYS, NOISE_LINES, Sought, level_header, noise_lines, overstatement,
-                                  planned, power_above)
+from malletbean.hunt_plan import (GREATEST_DELAY, LONG_DELAYS, NOISE_LINES, Sought, level_header, noise_lines,
+                                  overstatement, planned, power_above)
 from malletbean.refusal import Refusal
 
 

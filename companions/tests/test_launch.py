@@ -12,7 +12,8 @@ from malletbean import launch
 
 
 def test_each_companion_is_a_command() -> None:
-    texts = {path.name: path.read_text(encoding="ascii") for path in HERE.parent.glob("psr_*") if path.name != "psr_why"}
+    texts = {path.name: path.read_text(encoding="ascii") for path in HERE.parent.glob("psr_*")
+             if path.name != "psr_why"}
     assert set(texts) == {name for name in launch.COMMANDS if name not in ("plan", "psr_plan")}
     assert len(set(texts.values())) == 1
 

@@ -21,6 +21,7 @@ from malletbean.look import psr_look
 from malletbean.paths import delay_paths
 from malletbean.samples import Samples, path_sums
 
+
 def form_line(path: Path, capsys: pytest.CaptureFixture[str]) -> str:
     """What psr_look says of the form of the values."""
     capsys.readouterr()
@@ -129,8 +130,8 @@ def written_by(words: list[str], row: list[str]) -> list[int]:
     count = len(values) // (cells * times)
     spectra = np.array(values[:count * cells * times], int).reshape(count, times, cells).sum(axis=1)
     kept = [channel not in masked for channel in range(channels) for _ in range(polarisations)]
-    reference = Reference(most=int(given.get("--most", usual.most)), stretch=int(given.get("--spectra", 16384)), kept=kept,
-                          zero_dm="--zero-dm" in given, **settings)  # type: ignore[arg-type]
+    reference = Reference(most=int(given.get("--most", usual.most)), stretch=int(given.get("--spectra", 16384)),
+                          kept=kept, zero_dm="--zero-dm" in given, **settings)  # type: ignore[arg-type]
     return [value for spectrum in reference.written(spectra.tolist()) for value in spectrum]
 
 

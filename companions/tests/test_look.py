@@ -220,7 +220,7 @@ TONES = {40: 2.7, 41: 1.9, 120: 1.5, 255: 2.0, 300: 1.6, 470: 2.2}
 @pytest.mark.parametrize("tones, gains", [({}, 0), (TONES, 0), ({}, 0.04), (TONES, 0.04)])
 def test_tones_in_a_rolled_off_band(tmp_path: Path, tones: dict[int, float], gains: float) -> None:
     samples = rolled_off(tmp_path / "band.dada", tones, gains)
-    assert np.flatnonzero(stand_out(measure(samples, samples.spectra))).tolist() == list(tones)
+    assert np.flatnonzero(stand_out(measure(samples, samples.spectra).whole)).tolist() == list(tones)
 
 
 def test_channels_that_never_change(tmp_path: Path, capsys: pytest.CaptureFixture[str]) -> None:
@@ -319,7 +319,7 @@ def test_little_memory(tmp_path: Path, monkeypatch: pytest.MonkeyPatch) -> None:
     """Pieces are read in parts."""
     path = tmp_path / "made.dada"
     made.make(path, spectra=8192)
-    whole = measure(Samples([str(path)]), 8192)
+    whole = measure(Samples([str(path)]), 8192).whole
     monkeypatch.setattr("malletbean.noise.VALUES_AT_A_TIME", 64 * 100)
     counts: list[int] = []
     plain = Samples.values
@@ -329,7 +329,7 @@ def test_little_memory(tmp_path: Path, monkeypatch: pytest.MonkeyPatch) -> None:
         return plain(samples, first, count, kind)
 
     monkeypatch.setattr(Samples, "values", counted)
-    parts = measure(Samples([str(path)]), 8192)
+    parts = measure(Samples([str(path)]), 8192).whole
     assert max(counts) == 100 and sum(counts) == 8192
     assert parts.means == pytest.approx(whole.means) and parts.within == pytest.approx(whole.within)
     assert form_of(Samples([str(path)])) == "<u"
@@ -350,6 +350,25 @@ def test_channels_are_counted_in_the_order_of_the_file(tmp_path: Path, capsys: p
     lines = capsys.readouterr().out.splitlines()
     number, middle, mean, _ = lines[lines.index("CHANNEL MHZ MEAN SD") + 1 + 5].split()
     assert (number, middle) == ("5", "1216.375") and float(mean) > 40
+
+
+@pytest.mark.parametrize("mean, deviation, says", [
+    (64, 8, "psr_level again, from the file as it was, with --zero-dm or --clip 6, against bursts,"),
+    (14, 2.8, "psr_level again, from the file as it was, with --zero-dm or --clip 6, against bursts,"),
+    (70, 8, "psr_level --spectra "),
+])
+def test_a_level_file_full_of_bursts(tmp_path: Path, capsys: pytest.CaptureFixture[str], mean: float, deviation: float,
+                                     says: str) -> None:
+    """It is known by the spectra between them, and fewer --spectra would not help."""
+    path = tmp_path / "bursts.dada"
+    made.make(path, spectra=1, delay=0)
+    values = np.random.default_rng(3).normal(mean, deviation, (2**16, 64))
+    for begin in range(50, 2**16, 2621):
+        values[begin:begin + 20] += 20 * deviation
+    path.write_bytes(path.read_bytes()[:4096] + values.round().clip(0, 255).astype(np.uint8).tobytes())
+    lines = said(capsys, str(path), "50")
+    assert ratio_of(lines["steady"]) > 1 and lines["level first"].startswith(says)
+    assert measure(Samples([str(path)]), 2**16).quiet.deviation == pytest.approx(deviation, rel=0.01)
 
 
 def test_a_delay_past_every_search(tmp_path: Path, capsys: pytest.CaptureFixture[str]) -> None:

@@ -6,8 +6,8 @@ from pathlib import Path
 
 import pytest
 
-from malletbean.manifest import (Burst, Command, Hunt, LevelFile, Observation, Program, Raised, SearchPass, read_manifest,
-                                 write_manifest)
+from malletbean.manifest import (Burst, Command, Hunt, LevelFile, Observation, Program, Raised, SearchPass,
+                                 read_manifest, write_manifest)
 from malletbean.refusal import Refusal
 
 SKY = Observation(paths=("/data/a.dada",), source="B0329+54", telescope="", freq=1382.0, bw=-400.0, nchan=1024, npol=1,

@@ -85,7 +85,8 @@ def test_a_full_disk(files: dict[str, str], tmp_path: Path) -> None:
     text = tmp_path / "long"
     text.write_text("PULSE 20 20 0.975 1 1253 52\n" * 20000 + "END 20000 0 256\n")
     command = f"'{sys.executable}' '{HERE.parent}/psr_table' '{files['made']}' 16 2.828 '{text}'"
-    answer = subprocess.run(["bash", "-c", f"ulimit -f 8; {command} > '{tmp_path}/out'"], capture_output=True, text=True)
+    limited = f"ulimit -f 8; {command} > '{tmp_path}/out'"
+    answer = subprocess.run(["bash", "-c", limited], capture_output=True, text=True)
     assert answer.returncode == 10
     assert answer.stderr == "psr_table: can't write: File too large\n"
 

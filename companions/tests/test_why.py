@@ -51,7 +51,7 @@ MISTYPED = [
     ("psr_search --mean -0 --sd 2.828 obs.dada", 2, "a value that begins with - is joined to its option, as --mean=-0"),
     ("psr_search SEARCH --record=yes obs.dada", 2, "--record takes no value, and yes is given"),
     ("psr_search SEARCH -- --snr 8 obs.dada", 6, "--snr is not there"),
-    ("psr_record --snr 8 obs.dada", 2, "has no option --snr: it is one of psr_search, psr_mask, psr_part, psr_live and"),
+    ("psr_record --snr 8 obs.dada", 2, "has no option --snr: it is one of psr_search, psr_mask, psr_part, psr_live"),
     ("psr_record --record obs.dada", 2, "psr_record has no option --record: it is one of psr_search"),
     ("psr_record", 2, "FILE is missing"),
     ("psr_make", 2, "NAME is missing"),
