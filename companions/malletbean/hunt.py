@@ -38,7 +38,7 @@ from .program import Stopped, Words, say
 from .refusal import MEMORY, OUTPUT, WORDS, Refusal, bytes_of
 from .report import write_report
 from .samples import Samples
-from .series import write_candidate_series
+from .series import candidate_delays, write_level_series
 from .settings import Settings, write_settings
 from .workers import workers
 
@@ -432,10 +432,12 @@ def finish(asked: argparse.Namespace, running: Running, begun: float) -> list[st
     """Writes candidates, report and summary, removes what is of no more use, and answers the summary."""
     folder = running.folder
     table = write_candidates(folder)
-    with workers(1) as pool:
-        series = pool.submit(write_candidate_series, folder, table, MOST_SERIES)
+    with workers(asked.cores) as pool:
+        series = [pool.submit(write_level_series, folder, running.hunt.mask, *level)
+                  for level in candidate_delays(running.hunt, table, MOST_SERIES)]
         write_report(folder, most=MOST_PICTURES)
-        series.result()
+        for one in series:
+            one.result()
     lines = summary_lines(folder, running.hunt, running.head, count_lines(running), time.monotonic() - begun)
     if not asked.keep:
         clear(running)

@@ -13,7 +13,7 @@ from matplotlib.figure import Figure  # type: ignore[import]
 from .arrays import Array
 from .candidates import cells_by_delay
 from .headers import Header
-from .manifest import read_manifest
+from .manifest import Hunt, LevelFile
 from .masks import usual_distance
 from .number import scaled
 from .output import whole_file
@@ -143,23 +143,26 @@ def write_series(samples: Samples, delay: int, values: Array, name: str) -> None
             file.write(data)
 
 
-def write_candidate_series(folder: str, table: Array, most: int) -> list[str]:
-    """Writes the series of the first `most` candidates of the hunt in a folder, whatever repeats a delay of a level
-    but once; answers their names, without what follows the point."""
-    hunt = read_manifest(folder)
-    names = []
+def candidate_delays(hunt: Hunt, table: Array, most: int) -> list[tuple[LevelFile, list[int]]]:
+    """The levels in which the first `most` candidates of a hunt were found, and the delays of each, each once."""
+    found = []
     for level in hunt.levels:
         passes = [search.name for search in hunt.searches if search.level == level.path]
         rows = table[:most][np.isin(table["search"][:most], passes)]
-        if not len(rows):
-            continue
-        samples = Samples([os.path.join(folder, level.path)], hunt.mask)
-        delays = [*dict.fromkeys(rows["delay"].tolist())]
-        for delay, values in zip(delays, series_of(samples, delays)):
-            kind = "" if level.zero_dm else "-plain"
-            name = series_name(os.path.join(folder, f"averaged{level.average}{kind}"), samples.header, delay)
-            write_series(samples, delay, values, name)
-            names.append(name)
+        if len(rows):
+            found.append((level, [*dict.fromkeys(rows["delay"].tolist())]))
+    return found
+
+
+def write_level_series(folder: str, mask: str, level: LevelFile, delays: Sequence[int]) -> list[str]:
+    """Writes the series of some delays of a level of the hunt in a folder; answers their names, without what follows
+    the point."""
+    samples = Samples([os.path.join(folder, level.path)], mask)
+    kind = "" if level.zero_dm else "-plain"
+    names = []
+    for delay, values in zip(delays, series_of(samples, delays)):
+        names.append(series_name(os.path.join(folder, f"averaged{level.average}{kind}"), samples.header, delay))
+        write_series(samples, delay, values, names[-1])
     return names
 
 

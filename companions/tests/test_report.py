@@ -21,7 +21,7 @@ from malletbean.manifest import (Command, Hunt, LevelFile, Observation, Program,
 from malletbean.pictures import near
 from malletbean.report import write_report
 from malletbean.samples import Samples, fold_profile, path_sums_of
-from malletbean.series import write_candidate_series
+from malletbean.series import candidate_delays, write_level_series
 from sky import DEVIATION, MEAN, Band, Burst, average_sky, make_sky, search
 
 BAND = Band(64, 1400, -300, 256)
@@ -182,7 +182,8 @@ def test_a_report_of_nothing(folder: str, tmp_path: Path) -> None:
 
 
 def test_series_of_candidates(folder: str, table: Array) -> None:
-    names = write_candidate_series(folder, table, 2)
+    hunt = read_manifest(folder)
+    names = [name for level in candidate_delays(hunt, table, 2) for name in write_level_series(folder, hunt.mask, *level)]
     assert 1 <= len(names) <= 2
     for name in names:
         values = np.fromfile(f"{name}.dat", "<f4")
