@@ -58,8 +58,11 @@ row cat cat '' ''
 row psr_search search '' "$(memory "${search[@]}")"
 for kind in "${kinds[@]}"; do
     read -ra arguments <<<"${level[$kind]}"
-    goal=2
-    [[ $kind == '8 bits'* && $kind != *average* ]] || goal=4
+    case $kind in
+        '8 bits') goal=2 ;;
+        '8 bits, --average 4' | '16 bits') goal=4 ;;
+        *) goal='' ;;
+    esac
     row "psr_level, $kind" "$kind" "$goal" "$(memory "${at[psr_level]}" "${arguments[@]}")"
     [ -z "${OTHER:-}" ] || row "the other, $kind" "$kind, the other" '' ''
 done
