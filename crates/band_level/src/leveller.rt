@@ -1,5 +1,5 @@
 // Bytes that are fed, as levelled bytes.
-ghost use Rattle.std.specs.Prelude.{◌≡◌, ◌+◌, ◌*◌, ◌/◌, ◌<◌, ◌≤◌, ◌⊎◌, [], true, false, length, take, IfOk};
+ghost use Rattle.std.specs.Prelude.{◌≡◌, ℕ, ◌+◌, ◌*◌, ◌/◌, ◌<◌, ◌≤◌, ◌⊎◌, List, [], true, false, length, take, IfOk};
 ghost use Rattle.band_level.specs.Values.{cells, spectrum_bytes};
 ghost use Rattle.band_level.specs.Ranges.{FormatInRange, PlanInRange};
 ghost use Rattle.band_level.specs.Holding.{Puts, cleared, held_bytes};
@@ -152,12 +152,14 @@ impl Leveller {
     }
 
     /// Takes bytes until the stretch is whole, and says how many it took: none where spectra are to be levelled, or
-    /// the data have ended.
+    /// the data have ended; else at least one, if there is one.
     pub fn feed(&mut self, bytes: &[u8]) -> usize
         ensures within { result ≤ length bytes.now }
         ensures takes { Takes self.old self.new (take result bytes.now) }
         ensures rest { self.old.has_ended ≡ false → result < length bytes.now
             → 0 < pending self.new }
+        ensures some { (fed out : List ℕ) → Levels self.old fed out → self.old.has_ended ≡ false
+            → pending self.old ≡ 0 → 0 < length bytes.now → 0 < result }
     {
         self.bounds();
         if self.first < self.last || self.has_ended {
