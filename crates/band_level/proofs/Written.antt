@@ -7,9 +7,6 @@ use Rattle.std.proofs.lemmas.Simd.{length-replicate}
 use Rattle.band_level.specs.Holding.{Holding}
 use Rattle.band_level.specs.Levelled.{Task}
 use Rattle.band_level.specs.Spectra.{LevelsSpectra}
-use Rattle.band_level.specs.Scales.{Scale}
-use Rattle.band_level.specs.Rows.{HoldScales, ScalesFit}
-use Rattle.band_level.proofs.Scales.{scales_same}
 
 -- a list that was written whole
 pub written : (new old : List ℕ) (long : ℕ) → length new ≡ long → take long (new ++ drop (length new) old) ≡ new
@@ -18,15 +15,6 @@ written new old long e = take_at new (drop (length new) old) long e
 pub long_written : (new old : List ℕ) (long n : ℕ) → length new ≡ long → long ≡ n
     → length (take long (new ++ drop (length new) old)) ≡ n
 long_written new old long n e f = ap length (written new old long e) ∙ e ∙ f
-
--- scales in lists that are the same
-pub scales_in : (cells : ℕ) (scale : ℕ → Scale) (gains bases lifts gains' bases' lifts' : List ℕ) → gains' ≡ gains
-    → bases' ≡ bases → lifts' ≡ lifts → HoldScales cells scale gains bases lifts
-    → HoldScales cells scale gains' bases' lifts'
-scales_in cells scale gains bases lifts gains' bases' lifts' g b l holds i lt =
-    scales_same _ _ _ (slice_index gains i) (slice_index bases i) (slice_index lifts i)
-    (ap (λ xs. slice_index xs i) g) (ap (λ xs. slice_index xs i) b) (ap (λ xs. slice_index xs i) l)
-    ∙ holds i lt
 
 -- the levelling of lists that are the same
 pub levels_in : (k k' : Task) (held : Holding) (gains bases lifts old new piece : List ℕ) (held' : Holding)
@@ -64,16 +52,6 @@ zero_at xs n is i = ap (λ l. slice_index l i) is ∙ elim (cases_lt i n) [
 
 pub zero_long : (xs : List ℕ) (n : ℕ) → xs ≡ replicate n 0 → length xs ≡ n
 zero_long xs n is = ap length is ∙ zeroes_long n
-
-pub zero_scales : (n : ℕ) (gains bases lifts : List ℕ) → gains ≡ replicate n 0 → bases ≡ replicate n 0
-    → lifts ≡ replicate n 0 → ScalesFit n gains bases lifts
-zero_scales n gains bases lifts g b l = record {
-  gains_long = zero_long gains n g;
-  bases_long = zero_long bases n b;
-  lifts_long = zero_long lifts n l;
-  gain = λ i. omega (arith, zero_at gains n g i);
-  base = λ i. omega (arith, zero_at bases n b i);
-}
 
 -- as many pieces as fit into a size, but at least one
 pub piece_most : (size wide : ℕ) → max (size / wide) 1 * wide ≤ size + wide

@@ -3,10 +3,12 @@
 use Rattle.std.specs.Prelude.{ℕ, ◌≡◌, ◌*◌, ◌<◌, ◌≤◌, Bool, List, length, slice_index}
 use Rattle.band_level.specs.declared.format.Format.{Format}
 use Rattle.band_level.specs.declared.plan.Plan.{Plan}
+use Rattle.band_level.specs.declared.task.Task.{Task as TaskHeld}
 use Rattle.band_level.specs.Values.{cells, spectrum_bytes}
 use Rattle.band_level.specs.Holding.{Holding, held_bytes}
 use Rattle.band_level.specs.Scales.{unit}
-use Rattle.band_level.specs.Spectra.{written_bytes}
+use Rattle.band_level.specs.Levelled.{Task}
+use Rattle.band_level.specs.Spectra.{task_of, written_bytes}
 use Rattle.band_level.specs.Ranges.{FormatInRange, PlanInRange}
 
 -- what is held of a stretch, and which of its spectra are to be levelled
@@ -30,3 +32,10 @@ pub record TaskFits (f : Format) (p : Plan) (masked : List Bool) : Type 0 where
   pub format : FormatInRange f
   pub plan : PlanInRange p
   pub masked_long : length masked ≡ f.channels
+
+-- the task that the code holds
+abbrev pub task_in : TaskHeld → Task
+task_in k = task_of k.format k.plan k.masked.items
+
+abbrev pub FitsTask : TaskHeld → Type 0
+FitsTask k = TaskFits k.format k.plan k.masked.items

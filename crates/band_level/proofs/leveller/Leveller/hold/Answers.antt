@@ -21,8 +21,8 @@ invariant_of-self c =
         few = s.few;
       };
       scales = c.self.invariant.scales;
+      row = c.self.invariant.row;
       space = c.self.invariant.space;
-      far = c.self.invariant.far;
       narrow = c.self.invariant.narrow;
       piece = c.self.invariant.piece;
     }

@@ -24,35 +24,34 @@ level_spectra-requires-clause-held c =
     let f = c.self.inside in
     let s = c.self.invariant.stretch in
     let order = s.order in
-    has_fewer f.format f.held (f.first + c.min-count.result) f.last (omega arith)
+    has_fewer f.task.format f.held (f.first + c.min-count.result) f.last (omega arith)
     record { same = s.same; inside = s.inside }
 
 pub level_spectra-requires-clause-room : goal.level_spectra-requires-clause-room
 level_spectra-requires-clause-room c =
     let f = c.self.inside in
-    let row : f.row.len ≡ cells f.format =
-    sym c.as_mut_slice-5.ensures.len ∙ ap length c.as_mut_slice-5.ensures.value ∙ c.self.invariant.space.row_long in
-    let wide : c.len.result * (f.plan.bits / 8) ≡ written_bytes f.format f.plan =
-    ap (λ n. n * (f.plan.bits / 8)) (c.len.ensures ∙ row) in
-    let room = room_for c.min-count.result c.len-2.result (c.len.result * (f.plan.bits / 8)) (written_bytes f.format f.plan)
+    let row : f.row.len ≡ cells f.task.format =
+    sym c.as_mut_slice-5.ensures.len ∙ ap length c.as_mut_slice-5.ensures.value ∙ c.self.invariant.row in
+    let wide : c.len.result * (f.task.plan.bits / 8) ≡ written_bytes f.task.format f.task.plan =
+    ap (λ n. n * (f.task.plan.bits / 8)) (c.len.ensures ∙ row) in
+    let room = room_for c.min-count.result c.len-2.result (c.len.result * (f.task.plan.bits / 8)) (written_bytes f.task.format f.task.plan)
     wide (omega arith) in
     omega (arith, c.len-2.ensures, c.as_mut_slice-7.ensures.len)
 
 pub invariant_of-self : goal.invariant_of-self
 invariant_of-self c =
     let f = c.self.inside in
-    let space = c.self.invariant.space in
     let p = c.self.invariant.piece in
-    let row : f.row.len ≡ cells f.format =
-    sym c.as_mut_slice-5.ensures.len ∙ ap length c.as_mut_slice-5.ensures.value ∙ space.row_long in
+    let row : f.row.len ≡ cells f.task.format =
+    sym c.as_mut_slice-5.ensures.len ∙ ap length c.as_mut_slice-5.ensures.value ∙ c.self.invariant.row in
     let piece_long : f.piece.len ≡ length f.piece.items =
     sym c.as_mut_slice-7.ensures.len ∙ ap length c.as_mut_slice-7.ensures.value in
     let fr = written c.level_spectra.new.fractions f.fractions.items f.fractions.len
     (c.level_spectra.auto.fractions ∙ c.as_mut_slice-4.ensures.len) in
-    let wide : c.len.result * (f.plan.bits / 8) ≡ written_bytes f.format f.plan =
-    ap (λ n. n * (f.plan.bits / 8)) (c.len.ensures ∙ row) in
-    let part : c.min-count.result * (c.len.result * (f.plan.bits / 8)) ≤ c.len-2.result =
-    room_for c.min-count.result c.len-2.result (c.len.result * (f.plan.bits / 8)) (c.len.result * (f.plan.bits / 8))
+    let wide : c.len.result * (f.task.plan.bits / 8) ≡ written_bytes f.task.format f.task.plan =
+    ap (λ n. n * (f.task.plan.bits / 8)) (c.len.ensures ∙ row) in
+    let part : c.min-count.result * (c.len.result * (f.task.plan.bits / 8)) ≤ c.len-2.result =
+    room_for c.min-count.result c.len-2.result (c.len.result * (f.task.plan.bits / 8)) (c.len.result * (f.task.plan.bits / 8))
     refl (omega arith) in
     let long = long_written c.level_spectra.new.out f.piece.items f.piece.len (length f.piece.items)
     (c.level_spectra.auto.out ∙ c.as_mut_slice-7.ensures.len) piece_long in
@@ -60,15 +59,8 @@ invariant_of-self c =
       task = c.self.invariant.task;
       stretch = c.self.invariant.stretch;
       scales = c.self.invariant.scales;
-      space = record {
-        row_long = long_written c.level_spectra.new.row _ _ _ (c.level_spectra.auto.row ∙ c.as_mut_slice-5.ensures.len) row;
-        lows_long = space.lows_long;
-        highs_long = space.highs_long;
-        counts_long = space.counts_long;
-        totals_long = space.totals_long;
-        squares_long = space.squares_long;
-      };
-      far = c.self.invariant.far;
+      row = long_written c.level_spectra.new.row _ _ _ (c.level_spectra.auto.row ∙ c.as_mut_slice-5.ensures.len) row;
+      space = c.self.invariant.space;
       narrow = record {
         gains_long = long_written c.level_spectra.new.narrow_gains _ _ _
             (c.level_spectra.auto.narrow_gains ∙ c.as_mut_slice.ensures.len)
@@ -96,17 +88,17 @@ invariant_of-self c =
 pub returns-clause-some : goal.returns-clause-some
 returns-clause-some c =
     let f = c.self.inside in
-    let row : f.row.len ≡ cells f.format =
-    sym c.as_mut_slice-5.ensures.len ∙ ap length c.as_mut_slice-5.ensures.value ∙ c.self.invariant.space.row_long in
+    let row : f.row.len ≡ cells f.task.format =
+    sym c.as_mut_slice-5.ensures.len ∙ ap length c.as_mut_slice-5.ensures.value ∙ c.self.invariant.row in
     let piece_long : f.piece.len ≡ length f.piece.items =
     sym c.as_mut_slice-7.ensures.len ∙ ap length c.as_mut_slice-7.ensures.value in
-    let wide : c.len.result * (f.plan.bits / 8) ≡ written_bytes f.format f.plan =
-    ap (λ n. n * (f.plan.bits / 8)) (c.len.ensures ∙ row) in
+    let wide : c.len.result * (f.task.plan.bits / 8) ≡ written_bytes f.task.format f.task.plan =
+    ap (λ n. n * (f.task.plan.bits / 8)) (c.len.ensures ∙ row) in
     let task = c.self.invariant.task in
-    let some = some_written f.format f.plan task.format task.plan in
+    let some = some_written f.task.format f.task.plan task.format task.plan in
     let room = c.self.invariant.piece.room in
-    let one : 1 ≤ c.len-2.result / (c.len.result * (f.plan.bits / 8)) =
-    le-div 1 c.len-2.result (c.len.result * (f.plan.bits / 8)) (omega arith) (omega (arith, c.len-2.ensures)) in
+    let one : 1 ≤ c.len-2.result / (c.len.result * (f.task.plan.bits / 8)) =
+    le-div 1 c.len-2.result (c.len.result * (f.task.plan.bits / 8)) (omega arith) (omega (arith, c.len-2.ensures)) in
     let first = ap (λ (o : Levelling). o.first) c.self.view_is in
     let last = ap (λ (o : Levelling). o.last) c.self.view_is in
     omega arith
@@ -114,10 +106,10 @@ returns-clause-some c =
 pub returns-clause-makes : goal.returns-clause-makes
 returns-clause-makes c =
     let f = c.self.inside in
-    let row : f.row.len ≡ cells f.format =
-    sym c.as_mut_slice-5.ensures.len ∙ ap length c.as_mut_slice-5.ensures.value ∙ c.self.invariant.space.row_long in
-    let wide : c.len.result * (f.plan.bits / 8) ≡ written_bytes f.format f.plan =
-    ap (λ n. n * (f.plan.bits / 8)) (c.len.ensures ∙ row) in
+    let row : f.row.len ≡ cells f.task.format =
+    sym c.as_mut_slice-5.ensures.len ∙ ap length c.as_mut_slice-5.ensures.value ∙ c.self.invariant.row in
+    let wide : c.len.result * (f.task.plan.bits / 8) ≡ written_bytes f.task.format f.task.plan =
+    ap (λ n. n * (f.task.plan.bits / 8)) (c.len.ensures ∙ row) in
     let fr = written c.level_spectra.new.fractions f.fractions.items f.fractions.len
     (c.level_spectra.auto.fractions ∙ c.as_mut_slice-4.ensures.len) in
     let out = written c.level_spectra.new.out f.piece.items f.piece.len
@@ -125,8 +117,8 @@ returns-clause-makes c =
     let order = c.self.invariant.stretch.order in
     makes_piece _ c.args.self.now c.min-count.result _ _ c.self.view_is (omega arith)
     (levels_in _ _ _ _ _ _ _ _ _ _ _ _ _ _ _ _ f.first c.min-count.result
-    (ap (task_of f.format f.plan) c.as_slice.ensures.value) refl c.as_slice-2.ensures.value
+    (ap (task_of f.task.format f.task.plan) c.as_slice.ensures.value) refl c.as_slice-2.ensures.value
     c.as_slice-3.ensures.value c.as_slice-4.ensures.value c.as_mut_slice-4.ensures.value (sym fr)
     (ap (λ n. take (c.min-count.result * n) c.level_spectra.new.out) (sym wide)
-    ∙ ap (λ (xs : List ℕ). take (c.min-count.result * (c.len.result * (f.plan.bits / 8))) xs) (sym out))
+    ∙ ap (λ (xs : List ℕ). take (c.min-count.result * (c.len.result * (f.task.plan.bits / 8))) xs) (sym out))
     c.level_spectra.ensures.levels)

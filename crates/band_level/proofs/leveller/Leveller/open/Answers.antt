@@ -6,7 +6,7 @@ use Rattle.band_level.specs.Ranges.{FormatInRange, PlanInRange}
 use Rattle.band_level.specs.Values.{cells}
 use Rattle.band_level.specs.Spectra.{written_bytes}
 use Rattle.band_level.proofs.Ending.{starts}
-use Rattle.band_level.proofs.Written.{zero_at, zero_long, zero_scales, piece_most, piece_least}
+use Rattle.band_level.proofs.Written.{zero_at, zero_long, piece_most, piece_least}
 use Rattle.band_level.proofs.leveller.Leveller.open.Goals as goal
 
 -- no spectrum is longer than this
@@ -57,20 +57,9 @@ invariant_of-result c =
         inside = omega arith;
         few = omega arith;
       };
-      scales = zero_scales n _ _ _ c.in_ok-longs.ensures c.in_ok-longs-2.ensures c.in_ok-longs-3.ensures;
-      space = record {
-        row_long = zero_long c.in_ok-words-5.field-0.items n c.in_ok-words-5.ensures;
-        lows_long = zero_long c.in_ok-words-7.field-0.items n c.in_ok-words-7.ensures;
-        highs_long = zero_long c.in_ok-words-8.field-0.items n c.in_ok-words-8.ensures;
-        counts_long = zero_long c.in_ok-words-9.field-0.items n c.in_ok-words-9.ensures;
-        totals_long = zero_long c.in_ok-longs-4.field-0.items n c.in_ok-longs-4.ensures;
-        squares_long = zero_long c.in_ok-longs-5.field-0.items n c.in_ok-longs-5.ensures;
-      };
-      far = record {
-        counts_long = zero_long c.in_ok-words-10.field-0.items n c.in_ok-words-10.ensures;
-        totals_long = zero_long c.in_ok-longs-6.field-0.items n c.in_ok-longs-6.ensures;
-        squares_long = zero_long c.in_ok-longs-7.field-0.items n c.in_ok-longs-7.ensures;
-      };
+      scales = c.in_ok-open-2.ensures;
+      row = zero_long c.in_ok-words-5.field-0.items n c.in_ok-words-5.ensures;
+      space = c.in_ok-open-3.ensures;
       narrow = record {
         gains_long = zero_long c.in_ok-words-2.field-0.items n c.in_ok-words-2.ensures;
         bases_long = zero_long c.in_ok-words-3.field-0.items n c.in_ok-words-3.ensures;
