@@ -182,14 +182,7 @@ near_small value cells n lows highs counts totals squares few lc lt ls small nea
   ];
 }
 
--- scales that are set, of as many cells as another number says
-pub sets_for : {n m : ℕ} {p : Plan} {mark : ℕ → Bool} {moments : ℕ → Moments} {old new : ℕ → Scale} → n ≡ m
-    → SetsScales n p mark moments old new → SetsScales m p mark moments old new
-sets_for same sets = record {
-  set = λ i lt. sets.set i (omega arith);
-  kept = sets.kept;
-}
-
+-- what is left out, of as many cells as another number says
 pub leaves_for : {n m : ℕ} {counts totals squares far_counts far_totals far_squares counts' totals' squares' : List ℕ}
     → n ≡ m → LeavesOut n counts totals squares far_counts far_totals far_squares counts' totals' squares'
     → LeavesOut m counts totals squares far_counts far_totals far_squares counts' totals' squares'

@@ -1,10 +1,12 @@
 -- How a row of values is levelled and written.
 -- Source: this project's choice.
-use Rattle.std.specs.Prelude.{ℕ, ◌≡◌, ◌+◌, ◌-◌, ◌*◌, ◌/◌, ◌%◌, ◌^◌, ◌<◌, ◌≤◌, Bool, List, length, min, slice_index}
+use Rattle.std.specs.Prelude.{ℕ, ◌≡◌, ◌+◌, ◌-◌, ◌*◌, ◌/◌, ◌%◌, ◌^◌, ◌<◌, ◌≤◌, Bool, true, List, length, min, slice_index}
 use Rattle.band_level.specs.declared.plan.Plan.{Plan}
 use Rattle.band_level.specs.declared.cells.CellMoments.{CellMoments}
 use Rattle.band_level.specs.declared.cells.CellBounds.{CellBounds}
 use Rattle.band_level.specs.declared.cells.CellScales.{CellScales}
+use Rattle.band_level.specs.declared.cells.NarrowScales.{NarrowScales}
+use Rattle.band_level.specs.declared.cells.CellRows.{CellRows}
 use Rattle.band_level.specs.declared.cells.CellSpace.{CellSpace}
 use Rattle.band_level.specs.Moments.{Moments}
 use Rattle.band_level.specs.Scales.{Scale, scale_of, unit, most_gain}
@@ -63,6 +65,10 @@ AreNarrow cells most gains bases lifts narrow_gains narrow_bases narrow_lifts =
     (slice_index lifts i) (slice_index narrow_gains i) (slice_index narrow_bases i)
     (slice_index narrow_lifts i)
 
+abbrev pub Narrows : ℕ → ℕ → CellScales → NarrowScales → Type 0
+Narrows cells most s n = n.fits ≡ true → AreNarrow cells most s.gains.items s.bases.items
+    s.lifts.items n.gains.items n.bases.items n.lifts.items
+
 -- lists have a number for each cell
 pub record MomentsLong (cells : ℕ) (counts totals squares : List ℕ) : Type 0 where
   pub counts_long : length counts ≡ cells
@@ -84,12 +90,19 @@ pub record NarrowLong (cells : ℕ) (gains bases lifts : List ℕ) : Type 0 wher
   pub bases_long : length bases ≡ cells
   pub lifts_long : length lifts ≡ cells
 
+abbrev pub HasNarrow : ℕ → NarrowScales → Type 0
+HasNarrow cells n = NarrowLong cells n.gains.items n.bases.items n.lifts.items
+
 -- what was carried on, and lists of working space
 pub record RowsFit (cells : ℕ) (fractions row levels : List ℕ) : Type 0 where
   pub fractions_long : length fractions ≡ cells
   pub carried : (i : ℕ) → slice_index fractions i < unit
   pub row_long : length row ≡ cells
   pub levels_long : length levels ≡ cells
+
+pub record HasRows (cells : ℕ) (r : CellRows) : Type 0 where
+  pub rows : RowsFit cells r.fractions.items r.row.items r.levels.items
+  pub narrow : HasNarrow cells r.narrow
 
 -- each cell of which values were counted has the scale of its moments; others keep theirs
 pub record SetsScales (cells : ℕ) (p : Plan) (is_masked : ℕ → Bool) (moments : ℕ → Moments)

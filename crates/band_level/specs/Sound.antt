@@ -1,12 +1,11 @@
 -- What always holds of a leveller.
 -- Source: this project's choice.
-use Rattle.std.specs.Prelude.{ℕ, ◌≡◌, ◌*◌, ◌<◌, ◌≤◌, Bool, List, length, slice_index}
+use Rattle.std.specs.Prelude.{ℕ, ◌≡◌, ◌*◌, ◌≤◌, Bool, List, length}
 use Rattle.band_level.specs.declared.format.Format.{Format}
 use Rattle.band_level.specs.declared.plan.Plan.{Plan}
 use Rattle.band_level.specs.declared.task.Task.{Task as TaskHeld}
-use Rattle.band_level.specs.Values.{cells, spectrum_bytes}
+use Rattle.band_level.specs.Values.{spectrum_bytes}
 use Rattle.band_level.specs.Holding.{Holding, held_bytes}
-use Rattle.band_level.specs.Scales.{unit}
 use Rattle.band_level.specs.Levelled.{Task}
 use Rattle.band_level.specs.Spectra.{task_of, written_bytes}
 use Rattle.band_level.specs.Ranges.{FormatInRange, PlanInRange}
@@ -19,12 +18,8 @@ pub record StretchFits (f : Format) (p : Plan) (held : Holding) (first last : �
   pub inside : last * spectrum_bytes f ≤ held_bytes f held
   pub few : last ≤ p.spectra
 
--- what was carried on, and room for levels and their bytes
-pub record PieceFits (f : Format) (p : Plan) (fractions levels piece : List ℕ) (made : ℕ)
-    : Type 0 where
-  pub fractions_long : length fractions ≡ cells f
-  pub carried : (i : ℕ) → slice_index fractions i < unit
-  pub levels_long : length levels ≡ cells f
+-- room for the bytes of levels
+pub record PieceFits (f : Format) (p : Plan) (piece : List ℕ) (made : ℕ) : Type 0 where
   pub made_in : made ≤ length piece
   pub room : written_bytes f p ≤ length piece
 

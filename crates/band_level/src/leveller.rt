@@ -5,15 +5,15 @@ ghost use Rattle.band_level.specs.Ranges.{FormatInRange, PlanInRange};
 ghost use Rattle.band_level.specs.Holding.{Puts, cleared, held_bytes};
 ghost use Rattle.band_level.specs.Levelling.{Levelling, Levels, Takes, Gives, EndsAs, IsDone, pending};
 ghost use Rattle.band_level.specs.Steps.{Begins, MakesPiece, Measures, stretch_bytes};
-ghost use Rattle.band_level.specs.Rows.{HasScales, NarrowLong, SpaceFits};
+ghost use Rattle.band_level.specs.Rows.{HasRows, HasScales, SpaceFits};
 ghost use Rattle.band_level.specs.Sound.{FitsTask, PieceFits, StretchFits, task_in};
 
-use crate::cells::{CellScales, CellSpace};
+use crate::cells::{CellRows, CellScales, CellSpace};
 use crate::format::Format;
 use crate::held::Held;
 use crate::measure::measure;
 use crate::plan::Plan;
-use crate::space::{bytes, words};
+use crate::space::bytes;
 use crate::spectra::level_spectra;
 use crate::task::Task;
 use psr_base::Memory;
@@ -36,13 +36,7 @@ pub struct Leveller {
     is_scaled: bool,
     has_ended: bool,
     scales: CellScales,
-    fractions: Vec<u32>,
-    // working space: scales of 32 bits, a row of values, its levels, and the sums of each cell
-    narrow_gains: Vec<u32>,
-    narrow_bases: Vec<u32>,
-    narrow_lifts: Vec<u32>,
-    row: Vec<u32>,
-    levels: Vec<u32>,
+    rows: CellRows,
     space: CellSpace,
     // room for levelled bytes, of which so many are filled
     piece: Vec<u8>,
@@ -62,7 +56,7 @@ impl Model for Leveller {
       gains = l.scales.gains.items;
       bases = l.scales.bases.items;
       lifts = l.scales.lifts.items;
-      fractions = l.fractions.items;
+      fractions = l.rows.fractions.items;
       piece = take l.made l.piece.items;
     } };
 
@@ -70,12 +64,9 @@ impl Model for Leveller {
       task : FitsTask l.task;
       stretch : StretchFits l.task.format l.task.plan l.held l.first l.last;
       scales : HasScales (cells l.task.format) l.scales;
-      row : length l.row.items ≡ cells l.task.format;
+      rows : HasRows (cells l.task.format) l.rows;
       space : SpaceFits (cells l.task.format) l.space;
-      narrow : NarrowLong (cells l.task.format) l.narrow_gains.items l.narrow_bases.items
-          l.narrow_lifts.items;
-      piece : PieceFits l.task.format l.task.plan l.fractions.items l.levels.items l.piece.items
-          l.made;
+      piece : PieceFits l.task.format l.task.plan l.piece.items l.made;
     } };
 }
 
@@ -110,12 +101,7 @@ impl Leveller {
             is_scaled: false,
             has_ended: false,
             scales: CellScales::open(alloc, cells)?,
-            fractions: words(alloc, cells)?,
-            narrow_gains: words(alloc, cells)?,
-            narrow_bases: words(alloc, cells)?,
-            narrow_lifts: words(alloc, cells)?,
-            row: words(alloc, cells)?,
-            levels: words(alloc, cells)?,
+            rows: CellRows::open(alloc, cells)?,
             space: CellSpace::open(alloc, cells)?,
             piece: bytes(alloc, (PIECE / written).max(1) * written)?,
             made: 0,
@@ -200,7 +186,7 @@ impl Leveller {
             &self.held,
             &self.task,
             count,
-            self.row.as_mut_slice(),
+            self.rows.row.as_mut_slice(),
             &mut self.space,
             &mut self.scales,
         );
@@ -231,24 +217,15 @@ impl Leveller {
         ensures some { 0 < result }
         ensures makes { MakesPiece self.old self.new result }
     {
-        let written = self.row.len() * (self.task.plan.bits as usize / 8);
+        let written = self.task.written_bytes();
         let count = (self.last - self.first).min(self.piece.len() / written);
         level_spectra(
             &self.held,
-            self.task.format,
-            self.task.plan,
-            self.task.masked.as_slice(),
+            &self.task,
             self.first,
             count,
-            self.scales.gains.as_slice(),
-            self.scales.bases.as_slice(),
-            self.scales.lifts.as_slice(),
-            self.narrow_gains.as_mut_slice(),
-            self.narrow_bases.as_mut_slice(),
-            self.narrow_lifts.as_mut_slice(),
-            self.fractions.as_mut_slice(),
-            self.row.as_mut_slice(),
-            self.levels.as_mut_slice(),
+            &self.scales,
+            &mut self.rows,
             self.piece.as_mut_slice(),
         );
         self.made = count * written;

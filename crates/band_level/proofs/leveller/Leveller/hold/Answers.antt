@@ -21,9 +21,8 @@ invariant_of-self c =
         few = s.few;
       };
       scales = c.self.invariant.scales;
-      row = c.self.invariant.row;
+      rows = c.self.invariant.rows;
       space = c.self.invariant.space;
-      narrow = c.self.invariant.narrow;
       piece = c.self.invariant.piece;
     }
 

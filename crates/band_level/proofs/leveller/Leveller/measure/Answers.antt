@@ -7,16 +7,25 @@ use Rattle.band_level.proofs.Stepping.{measures}
 use Rattle.band_level.proofs.leveller.Leveller.measure.Goals as goal
 
 pub invariant_of-self : goal.invariant_of-self
-invariant_of-self c = record {
-  task = c.self.invariant.task;
-  stretch = c.self.invariant.stretch;
-  scales = c.measure.ensures.fit;
-  row = long_written c.measure.new.row _ _ _ (c.measure.auto.row ∙ c.as_mut_slice.ensures.len)
-      (sym c.as_mut_slice.ensures.len ∙ ap length c.as_mut_slice.ensures.value ∙ c.self.invariant.row);
-  space = c.measure.ensures.space;
-  narrow = c.self.invariant.narrow;
-  piece = c.self.invariant.piece;
-}
+invariant_of-self c =
+    let rows = c.self.invariant.rows.rows in
+    record {
+      task = c.self.invariant.task;
+      stretch = c.self.invariant.stretch;
+      scales = c.measure.ensures.fit;
+      rows = record {
+        rows = record {
+          fractions_long = rows.fractions_long;
+          carried = rows.carried;
+          row_long = long_written c.measure.new.row _ _ _ (c.measure.auto.row ∙ c.as_mut_slice.ensures.len)
+              (sym c.as_mut_slice.ensures.len ∙ ap length c.as_mut_slice.ensures.value ∙ rows.row_long);
+          levels_long = rows.levels_long;
+        };
+        narrow = c.self.invariant.rows.narrow;
+      };
+      space = c.measure.ensures.space;
+      piece = c.self.invariant.piece;
+    }
 
 pub returns : goal.returns
 returns c =
