@@ -1,5 +1,5 @@
 -- The law on means.
-use Rattle.std.proofs.Common.{◌≡◌, ℕ, zero, suc, refl, ◌+◌, ◌-◌, ◌*◌, ◌/◌, ◌<◌, ◌≤◌, min, inl, inr, Bool, true, false, cond, eqb, List, [], ◌∷◌, length, map, ◌∙◌, sym, ap, subst, arith}
+use Rattle.std.proofs.Common.{◌≡◌, ℕ, zero, suc, refl, ◌+◌, ◌-◌, ◌*◌, ◌/◌, ◌<◌, ◌≤◌, inl, inr, Bool, true, false, cond, eqb, List, [], ◌∷◌, length, map, ◌∙◌, sym, ap, subst, arith}
 use Rattle.std.specs.List.{range_with_len, sum_by, filter}
 use Rattle.std.proofs.Math.Nat.{mul-div-le, mul-le-mul_right}
 use Rattle.std.proofs.lemmas.Bool.{cases_lt}
@@ -10,8 +10,9 @@ use Rattle.std.proofs.lemmas.List.FromFn.{length-map-range_with_len}
 use Rattle.band_level.specs.Values.{Band}
 use Rattle.band_level.specs.Moments.{Moments, moments, near_values, fair_moments, is_near, distance}
 use Rattle.band_level.specs.Scales.{Scale, scale_of}
-use Rattle.band_level.specs.Levelled.{Task, is_masked, stretch_values, scale_by, scale_at, fine, fine_before, whole, level}
-use Rattle.band_level.specs.Laws.{MeansAreKept}
+use Rattle.band_level.specs.Ranges.{TaskInRange}
+use Rattle.band_level.specs.Levelled.{Task, is_masked, stretch_spectra, stretch_values, scale_by, stretch_for, scale_at, fine, fine_before, whole, level}
+use Rattle.band_level.specs.Laws.{IsUncut, MeansAreKept}
 use Rattle.band_level.proofs.Ranges.{sum_range_more_from}
 use Rattle.band_level.proofs.Agreeing.{own_stretch}
 use Rattle.band_level.proofs.Giving.{quotient}
@@ -153,6 +154,35 @@ lifted product n some =
     let h = above product (n * 1048576) (omega arith) in
     omega arith
 
+-- nothing lies before all spectra
+none_before : (stretch n : ℕ) → 0 < n → stretch * n ≡ 0 → stretch ≡ 0
+none_before stretch n some none = elim (cases_lt 0 stretch) [
+  | inl there ↦
+      let one : 1 * n ≤ stretch * n = mul-le-mul_right n there in
+      absurd (omega arith)
+  | inr nowhere ↦ omega arith
+]
+
+-- a spectrum of a stretch is levelled by it
+in_stretch : (k : Task) (b : Band) (stretch t : ℕ) → 0 < k.plan.spectra
+    → stretch * k.plan.spectra + stretch_spectra k b ≤ b.spectra → stretch * k.plan.spectra ≤ t
+    → t < stretch * k.plan.spectra + stretch_spectra k b → stretch_for k b t ≡ stretch
+in_stretch k b stretch t some fits low high =
+    let n = k.plan.spectra in
+    let own : t / n ≡ stretch = quotient t stretch n low (omega arith) in
+    elim (cases_lt b.spectra n) [
+      | inl short ↦
+          let first : stretch ≡ 0 = none_before stretch n some (omega arith) in
+          omega arith
+      | inr long ↦ own_stretch k b (stretch + 1) t some (omega arith) (omega arith) ∙ own
+    ]
+
+-- no spectra
+of_none : (levels : ℕ → ℕ) (first count mean : ℕ) → count ≡ 0
+    → distance (1000 * sum_by levels (range_with_len first count)) (count * mean) < 2000
+of_none levels first zero mean none = omega arith
+of_none levels first (suc n) mean none = absurd (omega arith)
+
 fine_step : (k : Task) (b : Band) (i t : ℕ) → fine_before k b i (t + 1) ≡ fine_before k b i t + fine k b i t
 unfolding fine_before
 fine_step k b i t = sum_range_more_from (fine k b i) 0 t t (omega arith)
@@ -162,22 +192,24 @@ fine_with : (k : Task) (b : Band) (i t : ℕ) (s : Scale) → scale_at k b t i �
 unfolding fine
 fine_with k b i t s is = ap (λ (z : Scale). z.base + z.gain * b.value t i) is ∙ omega arith
 
-pub means : MeansAreKept
-means k b stretch i range fits all uncut =
-    let n = k.plan.spectra in
-    let a = stretch * n in
-    let some : 0 < n = let h = range.plan.some_spectra in omega arith in
+-- of some spectra
+of_some : (k : Task) (b : Band) (stretch i : ℕ) → TaskInRange k → 0 < stretch_spectra k b
+    → stretch * k.plan.spectra + stretch_spectra k b ≤ b.spectra
+    → (fair_moments (stretch_values k b stretch i)).count ≡ stretch_spectra k b
+    → ((t : ℕ) → stretch * k.plan.spectra ≤ t → t < stretch * k.plan.spectra + stretch_spectra k b → IsUncut k b i t)
+    → distance (1000 * sum_by (level k b i) (range_with_len (stretch * k.plan.spectra) (stretch_spectra k b)))
+    (stretch_spectra k b * k.plan.mean) < 2000
+of_some k b stretch i range some fits all uncut =
+    let n = stretch_spectra k b in
+    let a = stretch * k.plan.spectra in
     let xs = stretch_values k b stretch i in
-    let enough : min n b.spectra ≡ n = omega (arith, mul-le-mul_right n (let e : 1 ≤ stretch + 1 = omega arith in e)) in
-    let long : length xs ≡ n =
-    length-map-range_with_len (λ j. b.value (a + j) i) 0 (min n b.spectra) ∙ enough in
+    let long : length xs ≡ n = length-map-range_with_len (λ j. b.value (a + j) i) 0 n in
     let m = moments xs in
     let fair : fair_moments xs ≡ m = fair_of_all xs (omega arith) (all ∙ sym long) in
     let s = scale_of k.plan (is_masked k i) m in
     let own : (t : ℕ) → a ≤ t → t < a + n → scale_at k b t i ≡ s =
     λ t low high.
-    ap (λ r. scale_by k b r i)
-    (own_stretch k b (stretch + 1) t some fits (omega arith) ∙ quotient t stretch n low (omega arith))
+    ap (λ r. scale_by k b r i) (in_stretch k b stretch t (let h = range.plan.some_spectra in omega arith) fits low high)
     ∙ ap (scale_of k.plan (is_masked k i)) fair in
     let levels : sum_by (whole k b i) (range_with_len a n)
     ≡ sum_by (level k b i) (range_with_len a n) + n * s.lift =
@@ -197,8 +229,7 @@ means k b stretch i range fits all uncut =
     let e0 : a + 0 ≡ a = omega arith in
     let values : sum_by (λ t. b.value t i) (range_with_len a n) ≡ m.total =
     sym (ap (λ c. sum_by (λ t. b.value t i) (range_with_len c n)) e0)
-    ∙ sums_shifted (λ t. b.value t i) a 0 n
-    ∙ ap (λ c. sum_by (λ v. v) (map (λ j. b.value (a + j) i) (range_with_len 0 c))) (sym enough) in
+    ∙ sums_shifted (λ t. b.value t i) a 0 n in
     let product = s.gain * m.total in
     let count : m.count ≡ n = long in
     let lift_is : s.lift ≡ product / (n * 1048576) + 1 = ap (λ c. product / (c * 1048576) + 1) count in
@@ -209,5 +240,11 @@ means k b stretch i range fits all uncut =
     let range_of = based n k.plan.mean s.lift product s.base some base_is enough_lift in
     let add : sum_by (fine k b i) (range_with_len a n) ≡ n * s.base + product =
     let h = ap (λ v. s.gain * v) values in omega arith in
-    bounded n k.plan.mean s.lift (fine_before k b i a) (n * s.base + product) _ range.plan.most_spectra
-    range_of.0 range_of.1 (omega arith)
+    bounded n k.plan.mean s.lift (fine_before k b i a) (n * s.base + product) _
+    (let h = range.plan.most_spectra in omega arith) range_of.0 range_of.1 (omega arith)
+
+pub means : MeansAreKept
+means k b stretch i range fits all uncut = elim (cases_lt 0 (stretch_spectra k b)) [
+  | inl some ↦ of_some k b stretch i range some fits all uncut
+  | inr none ↦ of_none (level k b i) (stretch * k.plan.spectra) (stretch_spectra k b) k.plan.mean (omega arith)
+]

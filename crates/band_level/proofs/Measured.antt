@@ -11,7 +11,7 @@ use Rattle.std.proofs.lemmas.List.FromFn.{length-map-range_with_len}
 use Rattle.band_level.specs.declared.plan.Plan.{Plan}
 use Rattle.band_level.specs.Columns.{AreBelow, AreFarSums, AreNear, AreSmall, AreTotals, LeavesOut, column, near_column, is_between, moments_held}
 use Rattle.band_level.specs.Moments.{Moments, moments, near_values, fair_moments, is_near}
-use Rattle.band_level.specs.Rows.{SetsScales, scale_held}
+use Rattle.band_level.specs.Rows.{SetsScales}
 use Rattle.band_level.specs.Scales.{Scale, scale_of}
 
 -- filters that agree at each value
@@ -31,7 +31,24 @@ moments_same : (a b c d e f : ℕ) → a ≡ d → b ≡ e → c ≡ f → momen
 moments_same a b c d e f x y z =
     ap (λ v. moments_with v b c) x ∙ ap (λ v. moments_with d v c) y ∙ ap (λ v. moments_with d e v) z
 
+-- moments in lists that are the same
+pub moments_same_in : {counts totals squares counts' totals' squares' : List ℕ} {m : Moments} (i : ℕ)
+    → counts' ≡ counts → totals' ≡ totals → squares' ≡ squares
+    → moments_held counts totals squares i ≡ m → moments_held counts' totals' squares' i ≡ m
+moments_same_in i c t q is =
+    moments_same _ _ _ _ _ _ (ap (λ xs. slice_index xs i) c) (ap (λ xs. slice_index xs i) t)
+    (ap (λ xs. slice_index xs i) q)
+    ∙ is
+
 -- ---- all values
+
+-- values were counted of each cell
+pub some_counted : (value : ℕ → ℕ → ℕ) (cells n : ℕ) (counts totals squares : List ℕ) → 0 < n
+    → ((i : ℕ) → i < cells → moments_held counts totals squares i ≡ moments (column value n i))
+    → (i : ℕ) → i < cells → 0 < slice_index counts i
+some_counted value cells n counts totals squares some all i here =
+    let count = ap (λ (m : Moments). m.count) (all i here) in
+    omega (arith, count, length-map-range_with_len (λ t. value t i) 0 n)
 
 pub all_moments : (value : ℕ → ℕ → ℕ) (cells n : ℕ) (counts totals squares : List ℕ)
     → ((i : ℕ) → i < cells → slice_index counts i ≡ n) → AreTotals value cells n totals squares
@@ -165,16 +182,7 @@ near_small value cells n lows highs counts totals squares few lc lt ls small nea
   ];
 }
 
--- scales that are set, of as many cells as another number says
-pub sets_for : {n m : ℕ} {p : Plan} {mark : ℕ → Bool} {moments : ℕ → Moments}
-    {gains bases lifts gains' bases' lifts' : List ℕ} → n ≡ m
-    → SetsScales n p mark moments gains bases lifts gains' bases' lifts'
-    → SetsScales m p mark moments gains bases lifts gains' bases' lifts'
-sets_for same sets = record {
-  set = λ i lt. sets.set i (omega arith);
-  kept = sets.kept;
-}
-
+-- what is left out, of as many cells as another number says
 pub leaves_for : {n m : ℕ} {counts totals squares far_counts far_totals far_squares counts' totals' squares' : List ℕ}
     → n ≡ m → LeavesOut n counts totals squares far_counts far_totals far_squares counts' totals' squares'
     → LeavesOut m counts totals squares far_counts far_totals far_squares counts' totals' squares'
@@ -203,24 +211,24 @@ fair_is p b xs scale first m is some none first_is = elim (cases_lt 0 (length (n
 
 pub fair_scales : (p : Plan) (mark : ℕ → Bool) (value : ℕ → ℕ → ℕ) (cells n : ℕ)
     (counts totals squares lows highs counts' totals' squares' : List ℕ)
-    (gains bases lifts gains' bases' lifts' gains'' bases'' lifts'' : List ℕ)
+    (scale scale' scale'' : ℕ → Scale)
     → ((t i : ℕ) → t < n → i < cells → value t i ≤ 4194303)
     → ((i : ℕ) → i < cells → moments_held counts totals squares i ≡ moments (column value n i))
     → ((i : ℕ) → i < cells → 0 < slice_index counts i)
     → AreNear cells counts totals squares lows highs
-    → SetsScales cells p mark (moments_held counts totals squares) gains bases lifts gains' bases' lifts'
+    → SetsScales cells p mark (moments_held counts totals squares) scale scale'
     → ((i : ℕ) → i < cells → moments_held counts' totals' squares' i ≡ moments (near_column value lows highs n i))
-    → SetsScales cells p mark (moments_held counts' totals' squares') gains' bases' lifts' gains'' bases'' lifts''
+    → SetsScales cells p mark (moments_held counts' totals' squares') scale' scale''
     → (i : ℕ) → i < cells
-    → scale_held gains'' bases'' lifts'' i ≡ scale_of p (mark i) (fair_moments (column value n i))
+    → scale'' i ≡ scale_of p (mark i) (fair_moments (column value n i))
 fair_scales p mark value cells n counts totals squares lows highs counts' totals' squares'
-    gains bases lifts gains' bases' lifts' gains'' bases'' lifts'' small all some near set all' set' i here =
+    scale scale' scale'' small all some near set all' set' i here =
     let xs = column value n i in
     let near_ones : near_column value lows highs n i ≡ near_values xs =
     filters_agree (is_between (slice_index lows i) (slice_index highs i)) (is_near (moments xs)) (λ t. value t i) 0 n
     (λ t from to. near.near i (value t i) here (omega (arith, small t i (omega arith) here))
     ∙ ap (λ m. is_near m (value t i)) (all i here)) in
-    fair_is p (mark i) xs _ (scale_held gains' bases' lifts' i) (moments_held counts' totals' squares' i)
+    fair_is p (mark i) xs _ (scale' i) (moments_held counts' totals' squares' i)
     (all' i here ∙ ap moments near_ones)
     (set'.set i here) (set'.kept i)
     (set.set i here (some i here) ∙ ap (scale_of p (mark i)) (all i here))

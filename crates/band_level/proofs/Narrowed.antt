@@ -1,8 +1,16 @@
 -- Scales of 32 bits stand for those of 64.
-use Rattle.std.proofs.Common.{◌≡◌, ℕ, ◌+◌, ◌-◌, ◌*◌, ◌/◌, ◌%◌, ◌^◌, ◌≤◌, min, List, length, slice_index, ◌∙◌, ap, arith}
+use Rattle.std.proofs.Common.{◌≡◌, ℕ, ◌+◌, ◌-◌, ◌*◌, ◌/◌, ◌%◌, ◌^◌, ◌≤◌, min, List, length, slice_index, ◌∙◌, sym, ap, subst, arith}
 use Rattle.std.proofs.Math.Nat.{mul-le-mul_left}
 use Rattle.band_level.specs.Scales.{unit}
 use Rattle.band_level.specs.Rows.{AreNarrow, LevelsRow, NarrowAt, units_at}
+
+-- narrow scales in lists that are the same
+pub narrow_in : (cells most : ℕ) (gains bases lifts g b l g' b' l' : List ℕ) → g' ≡ g → b' ≡ b → l' ≡ l
+    → AreNarrow cells most gains bases lifts g b l → AreNarrow cells most gains bases lifts g' b' l'
+narrow_in cells most gains bases lifts g b l g' b' l' x y z narrow =
+    subst (λ (xs : List ℕ). AreNarrow cells most gains bases lifts xs b' l') (sym x)
+    (subst (λ (xs : List ℕ). AreNarrow cells most gains bases lifts g xs l') (sym y)
+    (subst (λ (xs : List ℕ). AreNarrow cells most gains bases lifts g b xs) (sym z) narrow))
 
 -- there is room for what is made of a value
 pub room_for : (most gain base lift g b l x : ℕ) → NarrowAt most gain base lift g b l → x ≤ most

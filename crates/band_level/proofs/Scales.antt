@@ -1,10 +1,7 @@
--- How large the numbers of a scale are, and scales with the same numbers.
-use Rattle.std.proofs.Common.{◌≡◌, ℕ, ◌+◌, ◌-◌, ◌*◌, ◌/◌, ◌≤◌, ◌∙◌, ap, arith}
+-- How large the numbers of a scale are.
+use Rattle.std.proofs.Common.{ℕ, ◌+◌, ◌-◌, ◌*◌, ◌/◌, ◌≤◌, arith}
 use Rattle.std.proofs.Math.Nat.{mul-le-mul, mul-le-mul_right, mul-div-le, div-le_of_le-mul}
-use Rattle.band_level.specs.Scales.{Scale, most_gain}
-
-abbrev pub scale_with : ℕ → ℕ → ℕ → Scale
-scale_with gain base lift = record { gain = gain; base = base; lift = lift }
+use Rattle.band_level.specs.Scales.{most_gain}
 
 -- the mean of the values, as the greatest gain has it
 pub lift_most : (gain total count : ℕ) → gain ≤ most_gain → total ≤ count * 4194303
@@ -22,7 +19,3 @@ base_most mean count part small =
     let product : mean * count ≤ 65535000 * count = mul-le-mul_right count small in
     let most : mean * count * 1048576 / 1000 ≤ 65535 * (count * 1048576) = div-le_of_le-mul 1000 (omega arith) in
     div-le_of_le-mul count (omega arith)
-
-pub scales_same : (a b c d e f : ℕ) → a ≡ d → b ≡ e → c ≡ f
-    → scale_with a b c ≡ scale_with d e f
-scales_same a b c d e f x y z = ap (λ v. scale_with v b c) x ∙ ap (λ v. scale_with d v c) y ∙ ap (λ v. scale_with d e v) z

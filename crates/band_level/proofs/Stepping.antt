@@ -2,44 +2,24 @@
 use Rattle.std.proofs.Common.{◌≡◌, ℕ, refl, ◌+◌, ◌*◌, ◌/◌, ◌<◌, ◌≤◌, ◌⊎◌, inl, inr, Bool, true, false, List, [], ◌∙◌, sym, ap, subst, arith}
 use Rattle.std.proofs.lemmas.Bool.{cases_lt}
 use Rattle.band_level.specs.Ranges.{FormatInRange}
-use Rattle.band_level.specs.Values.{cells, spectrum_bytes}
-use Rattle.band_level.specs.Holding.{Holding, Puts, cleared, held_bytes, held_value}
-use Rattle.band_level.specs.Moments.{fair_moments}
-use Rattle.band_level.specs.Columns.{column}
-use Rattle.band_level.specs.Scales.{scale_of}
-use Rattle.band_level.specs.Rows.{HoldScales}
-use Rattle.band_level.specs.Levelled.{marks_cell}
+use Rattle.band_level.specs.Values.{spectrum_bytes}
+use Rattle.band_level.specs.Holding.{Puts, cleared, held_bytes}
 use Rattle.band_level.specs.Spectra.{LevelsSpectra}
 use Rattle.band_level.specs.Levelling.{Levelling, Takes, Gives, EndsAs, pending}
 use Rattle.band_level.specs.Steps.{HeldScales, Measures, Begins, MakesPiece, stretch_bytes}
-use Rattle.band_level.proofs.Written.{scales_in}
 use Rattle.band_level.proofs.Standing.{takes_short, takes_whole}
 use Rattle.band_level.proofs.Giving.{MakesSpectra, gives_on, gives_last}
 use Rattle.band_level.proofs.Ending.{ends_scaled, ends_short}
 
 -- ---- scales
 
-abbrev ScalesOf : Levelling → List Bool → Holding → ℕ → List ℕ → List ℕ → List ℕ → Type 0
-ScalesOf l masked held count gains bases lifts = HoldScales (cells l.task.format)
-    (λ i. scale_of l.task.plan (marks_cell masked l.task.format.polarisations i)
-    (fair_moments (column (held_value l.task.format held) count i)))
-    gains bases lifts
-
-pub measures : (v l : Levelling) (count : ℕ) (masked : List Bool) (held : Holding)
-    (gains bases lifts gains' bases' lifts' : List ℕ)
-    → v ≡ l → masked ≡ v.task.masked → held ≡ v.held → gains' ≡ gains → bases' ≡ bases → lifts' ≡ lifts
-    → ScalesOf v masked held count gains bases lifts
-    → Measures l (record v { gains = gains'; bases = bases'; lifts = lifts'; is_scaled = true }) count
-measures v l count masked held gains bases lifts gains' bases' lifts' view is_masked is_held g b f scales =
-    let here : ScalesOf v v.task.masked v.held count gains bases lifts =
-    subst (λ (ms : List Bool). ScalesOf v ms v.held count gains bases lifts) is_masked
-    (subst (λ (hs : Holding). ScalesOf v masked hs count gains bases lifts) is_held scales) in
+pub measures : (v l : Levelling) (count : ℕ) (gains bases lifts : List ℕ) → v ≡ l
+    → HeldScales v v.held count gains bases lifts
+    → Measures l (record v { gains = gains; bases = bases; lifts = lifts; is_scaled = true }) count
+measures v l count gains bases lifts view scales =
     subst (λ (x : Levelling).
-    Measures x (record v { gains = gains'; bases = bases'; lifts = lifts'; is_scaled = true }) count) view
-    record {
-      same = refl;
-      scales = scales_in (cells v.task.format) _ gains bases lifts gains' bases' lifts' g b f here;
-    }
+    Measures x (record v { gains = gains; bases = bases; lifts = lifts; is_scaled = true }) count) view
+    record { same = refl; scales = scales }
 
 pub begun : (v mid l : Levelling) (n : ℕ) → v ≡ mid → Measures l mid n → n ≡ l.task.plan.spectra
     → Begins l (record v { first = 0; last = n })

@@ -2,6 +2,8 @@
 -- Source: this project's choice.
 use Rattle.std.specs.Prelude.{ℕ, ◌≡◌, ◌+◌, ◌-◌, ◌*◌, ◌^◌, ◌<◌, ◌≤◌, ◌&&◌, Bool, not, List, length, map, filter, sum_by, slice_index, nat_le, cond}
 use Rattle.std.specs.List.{range_with_len}
+use Rattle.band_level.specs.declared.cells.CellMoments.{CellMoments}
+use Rattle.band_level.specs.declared.cells.CellBounds.{CellBounds}
 use Rattle.band_level.specs.Moments.{Moments, is_near}
 
 -- the values of a cell in the first n spectra
@@ -61,10 +63,17 @@ pub record AreSmall (n : ℕ) (counts totals squares : List ℕ) : Type 0 where
   pub total : (i : ℕ) → slice_index totals i ≤ slice_index counts i * 4194303
   pub square : (i : ℕ) → slice_index squares i ≤ slice_index counts i * 17592177655809
 
+abbrev pub IsSmall : ℕ → CellMoments → Type 0
+IsSmall n m = AreSmall n m.counts.items m.totals.items m.squares.items
+
 -- sums of at most n values that are no greater
 pub record AreBelow (n : ℕ) (totals squares : List ℕ) : Type 0 where
   pub total : (i : ℕ) → slice_index totals i ≤ n * 4194303
   pub square : (i : ℕ) → slice_index squares i ≤ n * 17592177655809
+
+abbrev pub HoldsFar : (ℕ → ℕ → ℕ) → ℕ → ℕ → CellBounds → CellMoments → Type 0
+HoldsFar value cells n b m = AreFarSums value cells n b.lows.items b.highs.items m.counts.items
+    m.totals.items m.squares.items
 
 -- what was summed up is left out of other sums
 pub record LeavesOut (cells : ℕ) (counts totals squares far_counts far_totals far_squares
@@ -76,6 +85,11 @@ pub record LeavesOut (cells : ℕ) (counts totals squares far_counts far_totals 
   pub square : (i : ℕ) → i < cells
       → slice_index squares' i ≡ slice_index squares i - slice_index far_squares i
 
+abbrev pub LosesFar : ℕ → CellMoments → CellMoments → CellMoments → Type 0
+LosesFar cells m far m' = LeavesOut cells m.counts.items m.totals.items m.squares.items
+    far.counts.items far.totals.items far.squares.items
+    m'.counts.items m'.totals.items m'.squares.items
+
 -- the moments of a cell
 abbrev pub moments_held : List ℕ → List ℕ → List ℕ → ℕ → Moments
 moments_held counts totals squares i = record {
@@ -84,8 +98,15 @@ moments_held counts totals squares i = record {
   squares = slice_index squares i;
 }
 
+abbrev pub moments_in : CellMoments → ℕ → Moments
+moments_in m = moments_held m.counts.items m.totals.items m.squares.items
+
 -- the bounds of a cell hold what lies near the mean of its moments
 pub record AreNear (cells : ℕ) (counts totals squares lows highs : List ℕ) : Type 0 where
   pub near : (i x : ℕ) → i < cells → x < 2 ^ 32
       → is_between (slice_index lows i) (slice_index highs i) x
       ≡ is_near (moments_held counts totals squares i) x
+
+abbrev pub HoldsNear : ℕ → CellMoments → CellBounds → Type 0
+HoldsNear cells m b =
+    AreNear cells m.counts.items m.totals.items m.squares.items b.lows.items b.highs.items

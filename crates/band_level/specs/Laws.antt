@@ -7,23 +7,24 @@ use Rattle.band_level.specs.Moments.{fair_moments, distance}
 use Rattle.band_level.specs.Ranges.{TaskInRange}
 use Rattle.band_level.specs.declared.plan.Plan.{Plan}
 use Rattle.band_level.specs.Finished.{kept_before, kept_total, clipped, means, gain, loss, finished}
-use Rattle.band_level.specs.Levelled.{Task, stretch_values, scale_at, level, whole}
+use Rattle.band_level.specs.Levelled.{Task, stretch_spectra, stretch_values, scale_at, level, whole}
 
 -- nothing is cut of what a cell has in a spectrum
 pub record IsUncut (k : Task) (b : Band) (i t : ℕ) : Type 0 where
   pub low : (scale_at k b t i).lift ≤ whole k b i t
   pub high : whole k b i t ≤ (scale_at k b t i).lift + k.plan.most
 
--- Over a whole stretch of which no value was left out of the moments and nothing was cut, the sum of the levels of a cell
--- differs by less than two from that many means; both are in thousandths here.
+-- Over a stretch of which no value was left out of the moments and nothing was cut, the sum of the levels of a cell
+-- differs by less than two from that many means; both are in thousandths here. The stretch is a whole one, or all
+-- spectra of a band that has none.
 abbrev pub MeansAreKept : Type 0
 MeansAreKept = (k : Task) (b : Band) (stretch i : ℕ) → TaskInRange k →
-    (stretch + 1) * k.plan.spectra ≤ b.spectra →
-    (fair_moments (stretch_values k b stretch i)).count ≡ k.plan.spectra →
-    ((t : ℕ) → stretch * k.plan.spectra ≤ t → t < (stretch + 1) * k.plan.spectra
-    → IsUncut k b i t) →
-    distance (1000 * sum_by (level k b i) (range_with_len (stretch * k.plan.spectra) k.plan.spectra))
-    (k.plan.spectra * k.plan.mean) < 2000
+    let first = stretch * k.plan.spectra in
+    let count = stretch_spectra k b in
+    first + count ≤ b.spectra →
+    (fair_moments (stretch_values k b stretch i)).count ≡ count →
+    ((t : ℕ) → first ≤ t → t < first + count → IsUncut k b i t) →
+    distance (1000 * sum_by (level k b i) (range_with_len first count)) (count * k.plan.mean) < 2000
 
 -- nothing is cut of value j of n, which sum up to `total`, when the mean is taken out
 pub record IsBalanced (p : Plan) (n total j value : ℕ) : Type 0 where

@@ -24,11 +24,14 @@ is_masked k i = marks_cell k.masked k.format.polarisations i
 
 -- ---- scales
 
--- the values of a cell in a stretch: all of its spectra, where the band has no whole stretch
+-- how many spectra a stretch has: all of the band, where it has no whole stretch
+abbrev pub stretch_spectra : Task → Band → ℕ
+stretch_spectra k b = min k.plan.spectra b.spectra
+
+-- the values of a cell in a stretch
 abbrev pub stretch_values : Task → Band → ℕ → ℕ → List ℕ
 stretch_values k b stretch i =
-    map (λ j. b.value (stretch * k.plan.spectra + j) i)
-    (range_with_len 0 (min k.plan.spectra b.spectra))
+    map (λ j. b.value (stretch * k.plan.spectra + j) i) (range_with_len 0 (stretch_spectra k b))
 
 -- the scale of a cell by its moments in a stretch
 abbrev pub scale_by : Task → Band → ℕ → ℕ → Scale

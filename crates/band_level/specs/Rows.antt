@@ -1,7 +1,13 @@
 -- How a row of values is levelled and written.
 -- Source: this project's choice.
-use Rattle.std.specs.Prelude.{ℕ, ◌≡◌, ◌+◌, ◌-◌, ◌*◌, ◌/◌, ◌%◌, ◌^◌, ◌<◌, ◌≤◌, Bool, List, length, min, slice_index}
+use Rattle.std.specs.Prelude.{ℕ, ◌≡◌, ◌+◌, ◌-◌, ◌*◌, ◌/◌, ◌%◌, ◌^◌, ◌<◌, ◌≤◌, Bool, true, List, length, min, slice_index}
 use Rattle.band_level.specs.declared.plan.Plan.{Plan}
+use Rattle.band_level.specs.declared.cells.CellMoments.{CellMoments}
+use Rattle.band_level.specs.declared.cells.CellBounds.{CellBounds}
+use Rattle.band_level.specs.declared.cells.CellScales.{CellScales}
+use Rattle.band_level.specs.declared.cells.NarrowScales.{NarrowScales}
+use Rattle.band_level.specs.declared.cells.CellRows.{CellRows}
+use Rattle.band_level.specs.declared.cells.CellSpace.{CellSpace}
 use Rattle.band_level.specs.Moments.{Moments}
 use Rattle.band_level.specs.Scales.{Scale, scale_of, unit, most_gain}
 
@@ -26,6 +32,9 @@ pub record ScalesFit (cells : ℕ) (gains bases lifts : List ℕ) : Type 0 where
   pub gain : (i : ℕ) → slice_index gains i ≤ most_gain
   pub base : (i : ℕ) → slice_index bases i ≤ 68719476736
 
+abbrev pub HasScales : ℕ → CellScales → Type 0
+HasScales cells s = ScalesFit cells s.gains.items s.bases.items s.lifts.items
+
 -- the scale of a cell
 abbrev pub scale_held : List ℕ → List ℕ → List ℕ → ℕ → Scale
 scale_held gains bases lifts i = record {
@@ -33,6 +42,9 @@ scale_held gains bases lifts i = record {
   base = slice_index bases i;
   lift = slice_index lifts i;
 }
+
+abbrev pub scale_in : CellScales → ℕ → Scale
+scale_in s = scale_held s.gains.items s.bases.items s.lifts.items
 
 -- the scales of cells are these
 abbrev pub HoldScales : ℕ → (ℕ → Scale) → List ℕ → List ℕ → List ℕ → Type 0
@@ -53,15 +65,33 @@ AreNarrow cells most gains bases lifts narrow_gains narrow_bases narrow_lifts =
     (slice_index lifts i) (slice_index narrow_gains i) (slice_index narrow_bases i)
     (slice_index narrow_lifts i)
 
-pub record FarLong (cells : ℕ) (counts totals squares : List ℕ) : Type 0 where
+abbrev pub Narrows : ℕ → ℕ → CellScales → NarrowScales → Type 0
+Narrows cells most s n = n.fits ≡ true → AreNarrow cells most s.gains.items s.bases.items
+    s.lifts.items n.gains.items n.bases.items n.lifts.items
+
+-- lists have a number for each cell
+pub record MomentsLong (cells : ℕ) (counts totals squares : List ℕ) : Type 0 where
   pub counts_long : length counts ≡ cells
   pub totals_long : length totals ≡ cells
   pub squares_long : length squares ≡ cells
+
+abbrev pub HasMoments : ℕ → CellMoments → Type 0
+HasMoments cells m = MomentsLong cells m.counts.items m.totals.items m.squares.items
+
+pub record BoundsLong (cells : ℕ) (lows highs : List ℕ) : Type 0 where
+  pub lows_long : length lows ≡ cells
+  pub highs_long : length highs ≡ cells
+
+abbrev pub HasBounds : ℕ → CellBounds → Type 0
+HasBounds cells b = BoundsLong cells b.lows.items b.highs.items
 
 pub record NarrowLong (cells : ℕ) (gains bases lifts : List ℕ) : Type 0 where
   pub gains_long : length gains ≡ cells
   pub bases_long : length bases ≡ cells
   pub lifts_long : length lifts ≡ cells
+
+abbrev pub HasNarrow : ℕ → NarrowScales → Type 0
+HasNarrow cells n = NarrowLong cells n.gains.items n.bases.items n.lifts.items
 
 -- what was carried on, and lists of working space
 pub record RowsFit (cells : ℕ) (fractions row levels : List ℕ) : Type 0 where
@@ -70,19 +100,19 @@ pub record RowsFit (cells : ℕ) (fractions row levels : List ℕ) : Type 0 wher
   pub row_long : length row ≡ cells
   pub levels_long : length levels ≡ cells
 
+pub record HasRows (cells : ℕ) (r : CellRows) : Type 0 where
+  pub rows : RowsFit cells r.fractions.items r.row.items r.levels.items
+  pub narrow : HasNarrow cells r.narrow
+
 -- each cell of which values were counted has the scale of its moments; others keep theirs
 pub record SetsScales (cells : ℕ) (p : Plan) (is_masked : ℕ → Bool) (moments : ℕ → Moments)
-    (gains bases lifts gains' bases' lifts' : List ℕ) : Type 0 where
+    (old new : ℕ → Scale) : Type 0 where
   pub set : (i : ℕ) → i < cells → 0 < (moments i).count
-      → scale_held gains' bases' lifts' i ≡ scale_of p (is_masked i) (moments i)
-  pub kept : (i : ℕ) → (moments i).count ≡ 0
-      → scale_held gains' bases' lifts' i ≡ scale_held gains bases lifts i
+      → new i ≡ scale_of p (is_masked i) (moments i)
+  pub kept : (i : ℕ) → (moments i).count ≡ 0 → new i ≡ old i
 
--- lists of working space have a value for each cell
-pub record AreLong (cells : ℕ) (row lows highs counts totals squares : List ℕ) : Type 0 where
-  pub row_long : length row ≡ cells
-  pub lows_long : length lows ≡ cells
-  pub highs_long : length highs ≡ cells
-  pub counts_long : length counts ≡ cells
-  pub totals_long : length totals ≡ cells
-  pub squares_long : length squares ≡ cells
+-- working space for the sums of each cell
+pub record SpaceFits (cells : ℕ) (s : CellSpace) : Type 0 where
+  pub moments : HasMoments cells s.moments
+  pub bounds : HasBounds cells s.bounds
+  pub far : HasMoments cells s.far

@@ -1,12 +1,13 @@
 -- What always holds of a leveller.
 -- Source: this project's choice.
-use Rattle.std.specs.Prelude.{ℕ, ◌≡◌, ◌*◌, ◌<◌, ◌≤◌, Bool, List, length, slice_index}
+use Rattle.std.specs.Prelude.{ℕ, ◌≡◌, ◌*◌, ◌≤◌, Bool, List, length}
 use Rattle.band_level.specs.declared.format.Format.{Format}
 use Rattle.band_level.specs.declared.plan.Plan.{Plan}
-use Rattle.band_level.specs.Values.{cells, spectrum_bytes}
+use Rattle.band_level.specs.declared.task.Task.{Task as TaskHeld}
+use Rattle.band_level.specs.Values.{spectrum_bytes}
 use Rattle.band_level.specs.Holding.{Holding, held_bytes}
-use Rattle.band_level.specs.Scales.{unit}
-use Rattle.band_level.specs.Spectra.{written_bytes}
+use Rattle.band_level.specs.Levelled.{Task}
+use Rattle.band_level.specs.Spectra.{task_of, written_bytes}
 use Rattle.band_level.specs.Ranges.{FormatInRange, PlanInRange}
 
 -- what is held of a stretch, and which of its spectra are to be levelled
@@ -17,12 +18,8 @@ pub record StretchFits (f : Format) (p : Plan) (held : Holding) (first last : �
   pub inside : last * spectrum_bytes f ≤ held_bytes f held
   pub few : last ≤ p.spectra
 
--- what was carried on, and room for levels and their bytes
-pub record PieceFits (f : Format) (p : Plan) (fractions levels piece : List ℕ) (made : ℕ)
-    : Type 0 where
-  pub fractions_long : length fractions ≡ cells f
-  pub carried : (i : ℕ) → slice_index fractions i < unit
-  pub levels_long : length levels ≡ cells f
+-- room for the bytes of levels
+pub record PieceFits (f : Format) (p : Plan) (piece : List ℕ) (made : ℕ) : Type 0 where
   pub made_in : made ≤ length piece
   pub room : written_bytes f p ≤ length piece
 
@@ -30,3 +27,10 @@ pub record TaskFits (f : Format) (p : Plan) (masked : List Bool) : Type 0 where
   pub format : FormatInRange f
   pub plan : PlanInRange p
   pub masked_long : length masked ≡ f.channels
+
+-- the task that the code holds
+abbrev pub task_in : TaskHeld → Task
+task_in k = task_of k.format k.plan k.masked.items
+
+abbrev pub FitsTask : TaskHeld → Type 0
+FitsTask k = TaskFits k.format k.plan k.masked.items

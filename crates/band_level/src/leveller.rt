@@ -1,19 +1,21 @@
 // Bytes that are fed, as levelled bytes.
-ghost use Rattle.std.specs.Prelude.{◌≡◌, ◌+◌, ◌*◌, ◌/◌, ◌<◌, ◌≤◌, ◌⊎◌, [], true, false, length, take, IfOk};
+ghost use Rattle.std.specs.Prelude.{◌≡◌, ℕ, ◌+◌, ◌*◌, ◌/◌, ◌<◌, ◌≤◌, ◌⊎◌, List, [], true, false, length, take, IfOk};
 ghost use Rattle.band_level.specs.Values.{cells, spectrum_bytes};
 ghost use Rattle.band_level.specs.Ranges.{FormatInRange, PlanInRange};
 ghost use Rattle.band_level.specs.Holding.{Puts, cleared, held_bytes};
 ghost use Rattle.band_level.specs.Levelling.{Levelling, Levels, Takes, Gives, EndsAs, IsDone, pending};
 ghost use Rattle.band_level.specs.Steps.{Begins, MakesPiece, Measures, stretch_bytes};
-ghost use Rattle.band_level.specs.Rows.{AreLong, FarLong, NarrowLong, ScalesFit};
-ghost use Rattle.band_level.specs.Sound.{PieceFits, StretchFits, TaskFits};
+ghost use Rattle.band_level.specs.Rows.{HasRows, HasScales, SpaceFits};
+ghost use Rattle.band_level.specs.Sound.{FitsTask, PieceFits, StretchFits, task_in};
 
+use crate::cells::{CellRows, CellScales, CellSpace};
 use crate::format::Format;
 use crate::held::Held;
 use crate::measure::measure;
 use crate::plan::Plan;
-use crate::space::{bytes, longs, words};
+use crate::space::bytes;
 use crate::spectra::level_spectra;
+use crate::task::Task;
 use psr_base::Memory;
 use std::alloc::Global;
 use std::marker::Model;
@@ -25,10 +27,7 @@ const PIECE: usize = 262144;
 /// time; once the data have ended, what is left of them is.
 #[derive(Drop)]
 pub struct Leveller {
-    format: Format,
-    plan: Plan,
-    // the marks of the channels, in the order of the file
-    masked: Vec<bool>,
+    task: Task,
     // what came of the stretch
     held: Held,
     // which spectra of the stretch are to be levelled next
@@ -36,25 +35,9 @@ pub struct Leveller {
     last: usize,
     is_scaled: bool,
     has_ended: bool,
-    gains: Vec<u64>,
-    bases: Vec<u64>,
-    lifts: Vec<u64>,
-    fractions: Vec<u32>,
-    // working space: scales of 32 bits, a row of values, its levels, and the sums of each cell with its bounds
-    narrow_gains: Vec<u32>,
-    narrow_bases: Vec<u32>,
-    narrow_lifts: Vec<u32>,
-    row: Vec<u32>,
-    levels: Vec<u32>,
-    lows: Vec<u32>,
-    highs: Vec<u32>,
-    counts: Vec<u32>,
-    totals: Vec<u64>,
-    squares: Vec<u64>,
-    // the sums of the values beyond the bounds
-    far_counts: Vec<u32>,
-    far_totals: Vec<u64>,
-    far_squares: Vec<u64>,
+    scales: CellScales,
+    rows: CellRows,
+    space: CellSpace,
     // room for levelled bytes, of which so many are filled
     piece: Vec<u8>,
     made: usize,
@@ -64,30 +47,26 @@ impl Model for Leveller {
     ghost Value = { Levelling };
 
     ghost view = { λ l. record {
-      task = record { format = l.format; plan = l.plan; masked = l.masked.items };
+      task = task_in l.task;
       held = l.held;
       first = l.first;
       last = l.last;
       is_scaled = l.is_scaled;
       has_ended = l.has_ended;
-      gains = l.gains.items;
-      bases = l.bases.items;
-      lifts = l.lifts.items;
-      fractions = l.fractions.items;
+      gains = l.scales.gains.items;
+      bases = l.scales.bases.items;
+      lifts = l.scales.lifts.items;
+      fractions = l.rows.fractions.items;
       piece = take l.made l.piece.items;
     } };
 
     ghost invariant = { λ l. record {
-      task : TaskFits l.format l.plan l.masked.items;
-      stretch : StretchFits l.format l.plan l.held l.first l.last;
-      scales : ScalesFit (cells l.format) l.gains.items l.bases.items l.lifts.items;
-      space : AreLong (cells l.format) l.row.items l.lows.items l.highs.items l.counts.items
-          l.totals.items l.squares.items;
-      far : FarLong (cells l.format) l.far_counts.items l.far_totals.items
-          l.far_squares.items;
-      narrow : NarrowLong (cells l.format) l.narrow_gains.items l.narrow_bases.items
-          l.narrow_lifts.items;
-      piece : PieceFits l.format l.plan l.fractions.items l.levels.items l.piece.items l.made;
+      task : FitsTask l.task;
+      stretch : StretchFits l.task.format l.task.plan l.held l.first l.last;
+      scales : HasScales (cells l.task.format) l.scales;
+      rows : HasRows (cells l.task.format) l.rows;
+      space : SpaceFits (cells l.task.format) l.space;
+      piece : PieceFits l.task.format l.task.plan l.piece.items l.made;
     } };
 }
 
@@ -111,31 +90,19 @@ impl Leveller {
         let cells = (format.channels * format.polarisations) as usize;
         let written = cells * (plan.bits as usize / 8);
         Ok(Leveller {
-            format,
-            plan,
-            masked: marks(alloc, masked)?,
+            task: Task {
+                format,
+                plan,
+                masked: marks(alloc, masked)?,
+            },
             held: Held::open(alloc, format, plan.spectra)?,
             first: 0,
             last: 0,
             is_scaled: false,
             has_ended: false,
-            gains: longs(alloc, cells)?,
-            bases: longs(alloc, cells)?,
-            lifts: longs(alloc, cells)?,
-            fractions: words(alloc, cells)?,
-            narrow_gains: words(alloc, cells)?,
-            narrow_bases: words(alloc, cells)?,
-            narrow_lifts: words(alloc, cells)?,
-            row: words(alloc, cells)?,
-            levels: words(alloc, cells)?,
-            lows: words(alloc, cells)?,
-            highs: words(alloc, cells)?,
-            counts: words(alloc, cells)?,
-            totals: longs(alloc, cells)?,
-            squares: longs(alloc, cells)?,
-            far_counts: words(alloc, cells)?,
-            far_totals: longs(alloc, cells)?,
-            far_squares: longs(alloc, cells)?,
+            scales: CellScales::open(alloc, cells)?,
+            rows: CellRows::open(alloc, cells)?,
+            space: CellSpace::open(alloc, cells)?,
             piece: bytes(alloc, (PIECE / written).max(1) * written)?,
             made: 0,
         })
@@ -148,16 +115,18 @@ impl Leveller {
         ensures few { self.now.task.plan.spectra ≤ 1048576 }
         ensures order { self.now.first ≤ self.now.last }
     {
-        let _ = &self.format;
+        let _ = &self.task.format;
     }
 
     /// Takes bytes until the stretch is whole, and says how many it took: none where spectra are to be levelled, or
-    /// the data have ended.
+    /// the data have ended; else at least one, if there is one.
     pub fn feed(&mut self, bytes: &[u8]) -> usize
         ensures within { result ≤ length bytes.now }
         ensures takes { Takes self.old self.new (take result bytes.now) }
         ensures rest { self.old.has_ended ≡ false → result < length bytes.now
             → 0 < pending self.new }
+        ensures some { (fed out : List ℕ) → Levels self.old fed out → self.old.has_ended ≡ false
+            → pending self.old ≡ 0 → 0 < length bytes.now → 0 < result }
     {
         self.bounds();
         if self.first < self.last || self.has_ended {
@@ -199,7 +168,7 @@ impl Leveller {
         ensures { Begins self.old self.new }
     {
         self.bounds();
-        let all = self.plan.spectra as usize;
+        let all = self.task.plan.spectra as usize;
         self.measure(all);
         self.first = 0;
         self.last = all;
@@ -215,22 +184,11 @@ impl Leveller {
     {
         measure(
             &self.held,
-            self.format,
-            self.plan,
-            self.masked.as_slice(),
+            &self.task,
             count,
-            self.row.as_mut_slice(),
-            self.lows.as_mut_slice(),
-            self.highs.as_mut_slice(),
-            self.counts.as_mut_slice(),
-            self.totals.as_mut_slice(),
-            self.squares.as_mut_slice(),
-            self.far_counts.as_mut_slice(),
-            self.far_totals.as_mut_slice(),
-            self.far_squares.as_mut_slice(),
-            self.gains.as_mut_slice(),
-            self.bases.as_mut_slice(),
-            self.lifts.as_mut_slice(),
+            self.rows.row.as_mut_slice(),
+            &mut self.space,
+            &mut self.scales,
         );
         self.is_scaled = true;
     }
@@ -259,24 +217,15 @@ impl Leveller {
         ensures some { 0 < result }
         ensures makes { MakesPiece self.old self.new result }
     {
-        let written = self.row.len() * (self.plan.bits as usize / 8);
+        let written = self.task.written_bytes();
         let count = (self.last - self.first).min(self.piece.len() / written);
         level_spectra(
             &self.held,
-            self.format,
-            self.plan,
-            self.masked.as_slice(),
+            &self.task,
             self.first,
             count,
-            self.gains.as_slice(),
-            self.bases.as_slice(),
-            self.lifts.as_slice(),
-            self.narrow_gains.as_mut_slice(),
-            self.narrow_bases.as_mut_slice(),
-            self.narrow_lifts.as_mut_slice(),
-            self.fractions.as_mut_slice(),
-            self.row.as_mut_slice(),
-            self.levels.as_mut_slice(),
+            &self.scales,
+            &mut self.rows,
             self.piece.as_mut_slice(),
         );
         self.made = count * written;

@@ -1,10 +1,11 @@
 // Rows of values, levelled and written.
-ghost use Rattle.std.specs.Prelude.{◌≡◌, ℕ, ◌+◌, ◌-◌, ◌*◌, ◌/◌, ◌%◌, ◌^◌, ◌<◌, ◌≤◌, ◌⊎◌, ◌++◌, true, length, min, take, slice_index};
+ghost use Rattle.std.specs.Prelude.{◌≡◌, ℕ, ◌+◌, ◌-◌, ◌*◌, ◌/◌, ◌%◌, ◌^◌, ◌<◌, ◌≤◌, ◌⊎◌, ◌++◌, length, min, take, slice_index};
 ghost use Rattle.std.specs.List.{flat_map};
 ghost use Rattle.band_level.specs.Scales.{unit};
 ghost use Rattle.band_level.specs.Levelled.{value_bytes};
-ghost use Rattle.band_level.specs.Rows.{AreNarrow, LevelsRow, NarrowLong, RowsFit, ScalesFit, units_at};
+ghost use Rattle.band_level.specs.Rows.{HasNarrow, HasScales, LevelsRow, NarrowLong, Narrows, RowsFit, ScalesFit, units_at};
 
+use crate::cells::{CellScales, NarrowScales};
 use crate::scale::UNIT;
 
 // How many units a value has, in 32 bits.
@@ -98,46 +99,36 @@ fn level_wide(
     }
 }
 
-/// Levels a row of values, none of which is greater than `most_value`. Scales are said to be narrow if those of 32 bits
-/// stand for them.
+/// Levels a row of values, none of which is greater than `most_value`.
 pub fn level_row(
     row: &[u32],
     most_value: u32,
-    gains: &[u64],
-    bases: &[u64],
-    lifts: &[u64],
-    is_narrow: bool,
-    narrow_gains: &[u32],
-    narrow_bases: &[u32],
-    narrow_lifts: &[u32],
+    scales: &CellScales,
+    narrow: &NarrowScales,
     most: u32,
     fractions: &mut [u32],
     levels: &mut [u32],
 )
-    requires scales { ScalesFit (length row.now) gains.now bases.now lifts.now }
-    requires long { NarrowLong (length row.now) narrow_gains.now narrow_bases.now
-        narrow_lifts.now }
-    requires narrow { is_narrow ≡ true → AreNarrow (length row.now) most_value gains.now
-        bases.now lifts.now narrow_gains.now narrow_bases.now narrow_lifts.now }
+    requires scales { HasScales (length row.now) scales.now }
+    requires long { HasNarrow (length row.now) narrow.now }
+    requires narrow { Narrows (length row.now) most_value scales.now narrow.now }
     requires rows { RowsFit (length row.now) fractions.old row.now levels.old }
     requires values { (i : ℕ) → slice_index row.now i ≤ most_value }
     requires most_value { most_value ≤ 4194303 }
-    ensures levels { LevelsRow most row.now gains.now bases.now lifts.now fractions.old
-        levels.new fractions.new }
+    ensures levels { LevelsRow most row.now scales.now.gains.items scales.now.bases.items
+        scales.now.lifts.items fractions.old levels.new fractions.new }
     ensures carried { (i : ℕ) → slice_index fractions.new i < unit }
     ensures most { (i : ℕ) → i < length row.now → slice_index levels.new i ≤ most }
 {
-    if is_narrow {
-        level_narrow(
-            row,
-            narrow_gains,
-            narrow_bases,
-            narrow_lifts,
-            most,
-            fractions,
-            levels,
-        );
+    if narrow.fits {
+        let gains = narrow.gains.as_slice();
+        let bases = narrow.bases.as_slice();
+        let lifts = narrow.lifts.as_slice();
+        level_narrow(row, gains, bases, lifts, most, fractions, levels);
     } else {
+        let gains = scales.gains.as_slice();
+        let bases = scales.bases.as_slice();
+        let lifts = scales.lifts.as_slice();
         level_wide(row, gains, bases, lifts, most, fractions, levels);
     }
 }

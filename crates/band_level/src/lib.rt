@@ -1,6 +1,7 @@
 //! Data bytes, cut anywhere, as levelled bytes: a flat and steady band, stretch by stretch.
 #![tactic(auto)]
 
+mod cells;
 mod finish;
 mod format;
 mod held;
@@ -16,6 +17,7 @@ mod scale;
 mod space;
 mod spectra;
 mod sums;
+mod task;
 
 pub use format::Format;
 pub use laws::{means_are_kept, spectra_have_the_mean};

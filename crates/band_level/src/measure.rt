@@ -1,40 +1,47 @@
 // The scales of all cells, by the values of a stretch.
-ghost use Rattle.std.specs.Prelude.{◌≡◌, ℕ, ◌*◌, ◌/◌, ◌<◌, ◌≤◌, ◌≢◌, ◌⊎◌, length, slice_index};
+ghost use Rattle.std.specs.Prelude.{◌≡◌, ℕ, ◌<◌, ◌≤◌, ◌≢◌, length, slice_index};
 ghost use Rattle.band_level.specs.Values.{cells};
 ghost use Rattle.band_level.specs.Holding.{HasSpectra, held_value};
 ghost use Rattle.band_level.specs.Moments.{moments, fair_moments};
-ghost use Rattle.band_level.specs.Columns.{AreNear, AreSmall, column, near_column, moments_held};
-ghost use Rattle.band_level.specs.Rows.{AreLong, FarLong, HoldScales, ScalesFit, SetsScales, scale_held};
+ghost use Rattle.band_level.specs.Columns.{HoldsNear, IsSmall, column, near_column, moments_in};
+ghost use Rattle.band_level.specs.Rows.{HasBounds, HasMoments, HasScales, HoldScales, ScalesFit, SetsScales, SpaceFits, scale_held, scale_in};
 ghost use Rattle.band_level.specs.Scales.{scale_of};
 ghost use Rattle.band_level.specs.Sizes.{MomentsInRange, moments_of};
 ghost use Rattle.band_level.specs.Ranges.{FormatInRange, PlanInRange};
-ghost use Rattle.band_level.specs.Levelled.{marks_cell};
-ghost use Rattle.band_level.specs.Sound.{TaskFits};
+ghost use Rattle.band_level.specs.Levelled.{is_masked};
+ghost use Rattle.band_level.specs.Sound.{FitsTask, task_in};
 
+use crate::cells::{CellBounds, CellMoments, CellScales, CellSpace};
 use crate::format::Format;
 use crate::held::Held;
 use crate::moments::{add_up, add_up_far, leave_out};
 use crate::plan::Plan;
 use crate::scale::{Moments, near_bounds, scale_of_cell};
+use crate::task::Task;
 
 // Bounds of what lies near the mean of each cell.
-fn set_bounds(counts: &[u32], totals: &[u64], squares: &[u64], lows: &mut [u32], highs: &mut [u32])
-    requires totals { length totals.now ≡ length counts.now }
-    requires squares { length squares.now ≡ length counts.now }
-    requires lows { length lows.old ≡ length counts.now }
-    requires highs { length highs.old ≡ length counts.now }
-    requires small { AreSmall 1048576 counts.now totals.now squares.now }
-    requires some { (i : ℕ) → i < length counts.now → 0 < slice_index counts.now i }
-    ensures { AreNear (length counts.now) counts.now totals.now squares.now lows.new highs.new }
+fn set_bounds(moments: &CellMoments, bounds: &mut CellBounds)
+    requires moments { HasMoments (length moments.now.counts.items) moments.now }
+    requires bounds { HasBounds (length moments.now.counts.items) bounds.old }
+    requires small { IsSmall 1048576 moments.now }
+    requires some { (i : ℕ) → i < length moments.now.counts.items
+        → 0 < slice_index moments.now.counts.items i }
+    ensures long { HasBounds (length moments.now.counts.items) bounds.new }
+    ensures near { HoldsNear (length moments.now.counts.items) moments.now bounds.new }
 {
+    let counts = moments.counts.as_slice();
+    let totals = moments.totals.as_slice();
+    let squares = moments.squares.as_slice();
+    let lows = bounds.lows.as_mut_slice();
+    let highs = bounds.highs.as_mut_slice();
     for i in 0..counts.len() {
-        let bounds = near_bounds(Moments {
+        let near = near_bounds(Moments {
             count: counts[i],
             total: totals[i],
             squares: squares[i],
         });
-        lows[i] = bounds.low;
-        highs[i] = bounds.high;
+        lows[i] = near.low;
+        highs[i] = near.high;
     }
 }
 
@@ -70,29 +77,23 @@ fn set_scale(
 }
 
 // The scale of each cell of which values were counted; the others keep theirs.
-fn set_scales(
-    plan: Plan,
-    masked: &[bool],
-    polarisations: u32,
-    counts: &[u32],
-    totals: &[u64],
-    squares: &[u64],
-    gains: &mut [u64],
-    bases: &mut [u64],
-    lifts: &mut [u64],
-)
-    requires plan { PlanInRange plan }
-    requires polarisations { (polarisations ≡ 1) ⊎ (polarisations ≡ 2) }
-    requires masked { length counts.now ≡ length masked.now * polarisations }
-    requires totals { length totals.now ≡ length counts.now }
-    requires squares { length squares.now ≡ length counts.now }
-    requires scales { ScalesFit (length counts.now) gains.old bases.old lifts.old }
-    requires small { AreSmall 1048576 counts.now totals.now squares.now }
-    ensures fit { ScalesFit (length counts.now) gains.new bases.new lifts.new }
-    ensures sets { SetsScales (length counts.now) plan (marks_cell masked.now polarisations)
-        (moments_held counts.now totals.now squares.now)
-        gains.old bases.old lifts.old gains.new bases.new lifts.new }
+fn set_scales(task: &Task, moments: &CellMoments, scales: &mut CellScales)
+    requires task { FitsTask task.now }
+    requires moments { HasMoments (cells task.now.format) moments.now }
+    requires small { IsSmall 1048576 moments.now }
+    requires scales { HasScales (cells task.now.format) scales.old }
+    ensures fit { HasScales (cells task.now.format) scales.new }
+    ensures sets { SetsScales (cells task.now.format) task.now.plan (is_masked (task_in task.now))
+        (moments_in moments.now) (scale_in scales.old) (scale_in scales.new) }
 {
+    let masked = task.masked.as_slice();
+    let polarisations = task.format.polarisations;
+    let counts = moments.counts.as_slice();
+    let totals = moments.totals.as_slice();
+    let squares = moments.squares.as_slice();
+    let gains = scales.gains.as_mut_slice();
+    let bases = scales.bases.as_mut_slice();
+    let lifts = scales.lifts.as_mut_slice();
     for i in 0..counts.len() {
         let moments = Moments {
             count: counts[i],
@@ -100,154 +101,79 @@ fn set_scales(
             squares: squares[i],
         };
         let is_masked = masked[i / polarisations as usize];
-        set_scale(plan, is_masked, moments, i, gains, bases, lifts);
+        set_scale(task.plan, is_masked, moments, i, gains, bases, lifts);
     }
 }
 
 // The moments of all values of each cell.
-fn measure_all(
-    held: &Held,
-    format: Format,
-    count: usize,
-    row: &mut [u32],
-    counts: &mut [u32],
-    totals: &mut [u64],
-    squares: &mut [u64],
-)
+fn measure_all(held: &Held, format: Format, count: usize, row: &mut [u32], sums: &mut CellMoments)
     requires format { FormatInRange format }
     requires held { HasSpectra format held.now count }
-    requires some { 0 < count }
     requires most { count ≤ 1048576 }
     requires row { length row.old ≡ cells format }
-    requires sums { FarLong (cells format) counts.old totals.old squares.old }
+    requires long { HasMoments (cells format) sums.old }
+    ensures long { HasMoments (cells format) sums.new }
     ensures moments { (i : ℕ) → i < cells format
-        → moments_held counts.new totals.new squares.new i
-        ≡ moments (column (held_value format held.now) count i) }
-    ensures some { (i : ℕ) → i < cells format → 0 < slice_index counts.new i }
-    ensures small { AreSmall 1048576 counts.new totals.new squares.new }
+        → moments_in sums.new i ≡ moments (column (held_value format held.now) count i) }
+    ensures small { IsSmall 1048576 sums.new }
     ensures values { (t i : ℕ) → t < count → i < cells format
         → held_value format held.now t i ≤ 4194303 }
 {
+    let counts = sums.counts.as_mut_slice();
+    let totals = sums.totals.as_mut_slice();
+    let squares = sums.squares.as_mut_slice();
     counts.fill(count as u32);
     add_up(held, format, count, row, totals, squares);
 }
 
 // The moments of the values of each cell between its bounds, from those of all.
-fn measure_near(
-    held: &Held,
-    format: Format,
-    count: usize,
-    row: &mut [u32],
-    lows: &[u32],
-    highs: &[u32],
-    counts: &mut [u32],
-    totals: &mut [u64],
-    squares: &mut [u64],
-    far_counts: &mut [u32],
-    far_totals: &mut [u64],
-    far_squares: &mut [u64],
-)
+fn measure_near(held: &Held, format: Format, count: usize, row: &mut [u32], space: &mut CellSpace)
     requires format { FormatInRange format }
     requires held { HasSpectra format held.now count }
     requires most { count ≤ 1048576 }
-    requires space { AreLong (cells format) row.old lows.now highs.now counts.old totals.old
-        squares.old }
-    requires far { FarLong (cells format) far_counts.old far_totals.old far_squares.old }
-    requires moments { (i : ℕ) → i < cells format
-        → moments_held counts.old totals.old squares.old i
+    requires row { length row.old ≡ cells format }
+    requires space { SpaceFits (cells format) space.old }
+    requires moments { (i : ℕ) → i < cells format → moments_in space.old.moments i
         ≡ moments (column (held_value format held.now) count i) }
     requires values { (t i : ℕ) → t < count → i < cells format
         → held_value format held.now t i ≤ 4194303 }
-    ensures moments { (i : ℕ) → i < cells format
-        → moments_held counts.new totals.new squares.new i
-        ≡ moments (near_column (held_value format held.now) lows.now highs.now count i) }
-    ensures small { AreSmall 1048576 counts.new totals.new squares.new }
+    ensures space { SpaceFits (cells format) space.new }
+    ensures moments { (i : ℕ) → i < cells format → moments_in space.new.moments i
+        ≡ moments (near_column (held_value format held.now) space.old.bounds.lows.items
+        space.old.bounds.highs.items count i) }
+    ensures small { IsSmall 1048576 space.new.moments }
 {
-    add_up_far(
-        held,
-        format,
-        count,
-        row,
-        lows,
-        highs,
-        far_counts,
-        far_totals,
-        far_squares,
-    );
-    leave_out(counts, totals, squares, far_counts, far_totals, far_squares);
+    add_up_far(held, format, count, row, &space.bounds, &mut space.far);
+    leave_out(&mut space.moments, &space.far);
 }
 
-/// The scale of each cell by the values of `count` spectra. The row, the bounds and the sums are working space.
+/// The scale of each cell by the values of `count` spectra. The row is working space too.
 pub fn measure(
     held: &Held,
-    format: Format,
-    plan: Plan,
-    masked: &[bool],
+    task: &Task,
     count: usize,
     row: &mut [u32],
-    lows: &mut [u32],
-    highs: &mut [u32],
-    counts: &mut [u32],
-    totals: &mut [u64],
-    squares: &mut [u64],
-    far_counts: &mut [u32],
-    far_totals: &mut [u64],
-    far_squares: &mut [u64],
-    gains: &mut [u64],
-    bases: &mut [u64],
-    lifts: &mut [u64],
+    space: &mut CellSpace,
+    scales: &mut CellScales,
 )
-    requires task { TaskFits format plan masked.now }
-    requires held { HasSpectra format held.now count }
+    requires task { FitsTask task.now }
+    requires held { HasSpectra task.now.format held.now count }
     requires some { 0 < count }
     requires most { count ≤ 1048576 }
-    requires space { AreLong (cells format) row.old lows.old highs.old counts.old totals.old
-        squares.old }
-    requires far { FarLong (cells format) far_counts.old far_totals.old far_squares.old }
-    requires scales { ScalesFit (cells format) gains.old bases.old lifts.old }
-    ensures fit { ScalesFit (cells format) gains.new bases.new lifts.new }
-    ensures scales { HoldScales (cells format)
-        (λ i. scale_of plan (marks_cell masked.now format.polarisations i)
-        (fair_moments (column (held_value format held.now) count i)))
-        gains.new bases.new lifts.new }
+    requires row { length row.old ≡ cells task.now.format }
+    requires space { SpaceFits (cells task.now.format) space.old }
+    requires scales { HasScales (cells task.now.format) scales.old }
+    ensures space { SpaceFits (cells task.now.format) space.new }
+    ensures fit { HasScales (cells task.now.format) scales.new }
+    ensures scales { HoldScales (cells task.now.format)
+        (λ i. scale_of task.now.plan (is_masked (task_in task.now) i)
+        (fair_moments (column (held_value task.now.format held.now) count i)))
+        scales.new.gains.items scales.new.bases.items scales.new.lifts.items }
 {
-    let polarisations = format.polarisations;
-    measure_all(held, format, count, row, counts, totals, squares);
-    set_bounds(counts, totals, squares, lows, highs);
-    set_scales(
-        plan,
-        masked,
-        polarisations,
-        counts,
-        totals,
-        squares,
-        gains,
-        bases,
-        lifts,
-    );
-    measure_near(
-        held,
-        format,
-        count,
-        row,
-        lows,
-        highs,
-        counts,
-        totals,
-        squares,
-        far_counts,
-        far_totals,
-        far_squares,
-    );
-    set_scales(
-        plan,
-        masked,
-        polarisations,
-        counts,
-        totals,
-        squares,
-        gains,
-        bases,
-        lifts,
-    );
+    let format = task.format;
+    measure_all(held, format, count, row, &mut space.moments);
+    set_bounds(&space.moments, &mut space.bounds);
+    set_scales(task, &space.moments, scales);
+    measure_near(held, format, count, row, space);
+    set_scales(task, &space.moments, scales);
 }

@@ -3,9 +3,10 @@ ghost use Rattle.std.specs.Prelude.{◌≡◌, ℕ, ◌+◌, ◌*◌, ◌<◌, �
 ghost use Rattle.band_level.specs.Values.{cells};
 ghost use Rattle.band_level.specs.Holding.{HasSpectra, held_value};
 ghost use Rattle.band_level.specs.Ranges.{FormatInRange};
-ghost use Rattle.band_level.specs.Rows.{FarLong};
-ghost use Rattle.band_level.specs.Columns.{AddsFar, AreBelow, AreFarSums, AreSmall, AreTotals, LeavesOut, far_part};
+ghost use Rattle.band_level.specs.Rows.{HasBounds, HasMoments, MomentsLong};
+ghost use Rattle.band_level.specs.Columns.{AddsFar, AreBelow, AreSmall, AreTotals, HoldsFar, LosesFar, far_part};
 
+use crate::cells::{CellBounds, CellMoments};
 use crate::format::Format;
 use crate::held::Held;
 
@@ -111,7 +112,7 @@ fn add_far(
     requires lows { length lows.now ≡ length row.old }
     requires highs { length highs.now ≡ length row.old }
     requires few { length row.old ≤ 8192 }
-    requires sums { FarLong (length row.old) counts.old totals.old squares.old }
+    requires sums { MomentsLong (length row.old) counts.old totals.old squares.old }
     requires values { (i : ℕ) → slice_index row.old i ≤ 4194303 }
     requires small { AreSmall 1048575 counts.old totals.old squares.old }
     ensures adds { AddsFar lows.now highs.now row.old counts.old totals.old squares.old
@@ -178,22 +179,23 @@ pub fn add_up_far(
     format: Format,
     count: usize,
     row: &mut [u32],
-    lows: &[u32],
-    highs: &[u32],
-    counts: &mut [u32],
-    totals: &mut [u64],
-    squares: &mut [u64],
+    bounds: &CellBounds,
+    far: &mut CellMoments,
 )
     requires format { FormatInRange format }
     requires held { HasSpectra format held.now count }
     requires most { count ≤ 1048576 }
     requires row { length row.old ≡ cells format }
-    requires lows { length lows.now ≡ cells format }
-    requires highs { length highs.now ≡ cells format }
-    requires sums { FarLong (cells format) counts.old totals.old squares.old }
-    ensures sums { AreFarSums (held_value format held.now) (cells format) count lows.now
-        highs.now counts.new totals.new squares.new }
+    requires bounds { HasBounds (cells format) bounds.now }
+    requires long { HasMoments (cells format) far.old }
+    ensures long { HasMoments (cells format) far.new }
+    ensures sums { HoldsFar (held_value format held.now) (cells format) count bounds.now far.new }
 {
+    let lows = bounds.lows.as_slice();
+    let highs = bounds.highs.as_slice();
+    let counts = far.counts.as_mut_slice();
+    let totals = far.totals.as_mut_slice();
+    let squares = far.squares.as_mut_slice();
     counts.fill(0);
     totals.fill(0);
     squares.fill(0);
@@ -204,19 +206,18 @@ pub fn add_up_far(
 }
 
 /// Leaves sums out of other sums.
-pub fn leave_out(
-    counts: &mut [u32],
-    totals: &mut [u64],
-    squares: &mut [u64],
-    far_counts: &[u32],
-    far_totals: &[u64],
-    far_squares: &[u64],
-)
-    requires sums { FarLong (length counts.old) counts.old totals.old squares.old }
-    requires far { FarLong (length counts.old) far_counts.now far_totals.now far_squares.now }
-    ensures { LeavesOut (length counts.old) counts.old totals.old squares.old far_counts.now
-        far_totals.now far_squares.now counts.new totals.new squares.new }
+pub fn leave_out(moments: &mut CellMoments, far: &CellMoments)
+    requires moments { HasMoments (length moments.old.counts.items) moments.old }
+    requires far { HasMoments (length moments.old.counts.items) far.now }
+    ensures long { HasMoments (length moments.old.counts.items) moments.new }
+    ensures less { LosesFar (length moments.old.counts.items) moments.old far.now moments.new }
 {
+    let counts = moments.counts.as_mut_slice();
+    let totals = moments.totals.as_mut_slice();
+    let squares = moments.squares.as_mut_slice();
+    let far_counts = far.counts.as_slice();
+    let far_totals = far.totals.as_slice();
+    let far_squares = far.squares.as_slice();
     for i in 0..counts.len() {
         counts[i] = counts[i].saturating_sub(far_counts[i]);
         totals[i] = totals[i].saturating_sub(far_totals[i]);

@@ -1,19 +1,19 @@
 // Spectra that are held, levelled and written.
-ghost use Rattle.std.specs.Prelude.{◌≡◌, ℕ, ◌+◌, ◌*◌, ◌/◌, ◌<◌, ◌≤◌, [], true, length, take, slice_index};
+ghost use Rattle.std.specs.Prelude.{◌≡◌, ◌+◌, ◌*◌, ◌≤◌, [], length, take};
 ghost use Rattle.band_level.specs.Values.{cells, most_value};
 ghost use Rattle.band_level.specs.Holding.{HasSpectra};
-ghost use Rattle.band_level.specs.Scales.{unit};
-ghost use Rattle.band_level.specs.Rows.{AreNarrow, NarrowLong, RowsFit, ScalesFit};
+ghost use Rattle.band_level.specs.Rows.{HasRows, HasScales, Narrows};
 ghost use Rattle.band_level.specs.Ranges.{FormatInRange};
-ghost use Rattle.band_level.specs.Sound.{TaskFits};
-ghost use Rattle.band_level.specs.Spectra.{LevelsSpectra, task_of, written_bytes};
+ghost use Rattle.band_level.specs.Sound.{FitsTask, task_in};
+ghost use Rattle.band_level.specs.Spectra.{LevelsSpectra, written_bytes};
 
+use crate::cells::{CellRows, CellScales};
 use crate::finish::finish_row;
 use crate::format::Format;
 use crate::held::Held;
 use crate::levels::{level_row, write_levels};
 use crate::narrow::narrow_scales;
-use crate::plan::Plan;
+use crate::task::Task;
 
 // The greatest value that a cell may have.
 fn most_value(format: Format) -> u32
@@ -24,122 +24,77 @@ fn most_value(format: Format) -> u32
     format.average * if format.bits == 16 { 65535 } else { 255 }
 }
 
-/// Levels a spectrum that is held, and writes it from a place on. The row and the levels are working space.
+/// Levels a spectrum that is held, and writes it from a place on.
 fn level_spectrum(
     held: &Held,
-    format: Format,
-    plan: Plan,
-    masked: &[bool],
+    task: &Task,
     t: usize,
-    gains: &[u64],
-    bases: &[u64],
-    lifts: &[u64],
-    is_narrow: bool,
-    narrow_gains: &[u32],
-    narrow_bases: &[u32],
-    narrow_lifts: &[u32],
-    fractions: &mut [u32],
-    row: &mut [u32],
-    levels: &mut [u32],
+    scales: &CellScales,
+    rows: &mut CellRows,
     out: &mut [u8],
     at: usize,
 )
-    requires task { TaskFits format plan masked.now }
-    requires held { HasSpectra format held.now (t + 1) }
-    requires scales { ScalesFit (cells format) gains.now bases.now lifts.now }
-    requires long { NarrowLong (cells format) narrow_gains.now narrow_bases.now
-        narrow_lifts.now }
-    requires narrow { is_narrow ≡ true → AreNarrow (cells format) (most_value format) gains.now
-        bases.now lifts.now narrow_gains.now narrow_bases.now narrow_lifts.now }
-    requires rows { RowsFit (cells format) fractions.old row.old levels.old }
-    requires room { at + written_bytes format plan ≤ length out.old }
-    ensures carried { (i : ℕ) → slice_index fractions.new i < unit }
-    ensures levels { LevelsSpectra (task_of format plan masked.now) held.now gains.now
-        bases.now lifts.now t 1 fractions.old fractions.new (take at out.old)
-        (take (at + written_bytes format plan) out.new) }
+    requires task { FitsTask task.now }
+    requires held { HasSpectra task.now.format held.now (t + 1) }
+    requires scales { HasScales (cells task.now.format) scales.now }
+    requires rows { HasRows (cells task.now.format) rows.old }
+    requires narrow { Narrows (cells task.now.format) (most_value task.now.format) scales.now
+        rows.old.narrow }
+    requires room { at + written_bytes task.now.format task.now.plan ≤ length out.old }
+    ensures rows { HasRows (cells task.now.format) rows.new }
+    ensures narrow { rows.new.narrow ≡ rows.old.narrow }
+    ensures levels { LevelsSpectra (task_in task.now) held.now scales.now.gains.items
+        scales.now.bases.items scales.now.lifts.items t 1 rows.old.fractions.items
+        rows.new.fractions.items (take at out.old)
+        (take (at + written_bytes task.now.format task.now.plan) out.new) }
 {
-    held.read(row, format, t);
+    let plan = task.plan;
+    let row = rows.row.as_mut_slice();
+    let levels = rows.levels.as_mut_slice();
+    held.read(row, task.format, t);
     level_row(
         row,
-        most_value(format),
-        gains,
-        bases,
-        lifts,
-        is_narrow,
-        narrow_gains,
-        narrow_bases,
-        narrow_lifts,
+        most_value(task.format),
+        scales,
+        &rows.narrow,
         plan.most,
-        fractions,
+        rows.fractions.as_mut_slice(),
         levels,
     );
-    finish_row(plan, masked, format.polarisations, levels);
+    finish_row(
+        plan,
+        task.masked.as_slice(),
+        task.format.polarisations,
+        levels,
+    );
     write_levels(out, at, levels, plan.bits);
 }
 
-/// Levels spectra that are held, and writes them from the front on. The narrow scales, the row and the levels are
-/// working space.
+/// Levels spectra that are held, and writes them from the front on.
 pub fn level_spectra(
     held: &Held,
-    format: Format,
-    plan: Plan,
-    masked: &[bool],
+    task: &Task,
     first: usize,
     count: usize,
-    gains: &[u64],
-    bases: &[u64],
-    lifts: &[u64],
-    narrow_gains: &mut [u32],
-    narrow_bases: &mut [u32],
-    narrow_lifts: &mut [u32],
-    fractions: &mut [u32],
-    row: &mut [u32],
-    levels: &mut [u32],
+    scales: &CellScales,
+    rows: &mut CellRows,
     out: &mut [u8],
 )
-    requires task { TaskFits format plan masked.now }
+    requires task { FitsTask task.now }
     requires few { first + count ≤ 1048576 }
-    requires held { HasSpectra format held.now (first + count) }
-    requires scales { ScalesFit (cells format) gains.now bases.now lifts.now }
-    requires long { NarrowLong (cells format) narrow_gains.old narrow_bases.old
-        narrow_lifts.old }
-    requires rows { RowsFit (cells format) fractions.old row.old levels.old }
-    requires room { count * written_bytes format plan ≤ length out.old }
-    ensures carried { (i : ℕ) → slice_index fractions.new i < unit }
-    ensures levels { LevelsSpectra (task_of format plan masked.now) held.now gains.now
-        bases.now lifts.now first count fractions.old fractions.new []
-        (take (count * written_bytes format plan) out.new) }
+    requires held { HasSpectra task.now.format held.now (first + count) }
+    requires scales { HasScales (cells task.now.format) scales.now }
+    requires rows { HasRows (cells task.now.format) rows.old }
+    requires room { count * written_bytes task.now.format task.now.plan ≤ length out.old }
+    ensures rows { HasRows (cells task.now.format) rows.new }
+    ensures levels { LevelsSpectra (task_in task.now) held.now scales.now.gains.items
+        scales.now.bases.items scales.now.lifts.items first count rows.old.fractions.items
+        rows.new.fractions.items []
+        (take (count * written_bytes task.now.format task.now.plan) out.new) }
 {
-    let written = row.len() * (plan.bits as usize / 8);
-    let most = most_value(format);
-    let is_narrow = narrow_scales(
-        gains,
-        bases,
-        lifts,
-        most,
-        narrow_gains,
-        narrow_bases,
-        narrow_lifts,
-    );
+    let written = task.written_bytes();
+    narrow_scales(scales, most_value(task.format), &mut rows.narrow);
     for t in 0..count {
-        level_spectrum(
-            held,
-            format,
-            plan,
-            masked,
-            first + t,
-            gains,
-            bases,
-            lifts,
-            is_narrow,
-            narrow_gains,
-            narrow_bases,
-            narrow_lifts,
-            fractions,
-            row,
-            levels,
-            out,
-            t * written,
-        );
+        level_spectrum(held, task, first + t, scales, rows, out, t * written);
     }
 }

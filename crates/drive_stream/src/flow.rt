@@ -5,7 +5,7 @@ ghost use Rattle.disk_feeder.specs.Handing.{FeederHands};
 ghost use Rattle.drive_stream.specs.Flows.{HasBegun, FlowsTo, BreaksFlow};
 
 use crate::streaming::Streaming;
-use crate::taking::take_block;
+use crate::taking::take_in;
 use disk_feeder::{FeedEnd, Feeder};
 use obs_plan::Observation;
 use psr_base::{Failed, Inputs, Sink};
@@ -40,7 +40,7 @@ pub(crate) fn flow<'a, R: Wait, I: Inputs, K: Sink, T: Streaming>(
     for _turn in rt.forever() {
         let handed = feeder.next();
         let bytes = &feeder.block()[..handed.used];
-        match take_block(rt, task, stream, observation, bytes, out) {
+        match take_in(task, stream, observation, bytes, out) {
             Ok(()) => {}
             Err(failed) => return Err(failed),
         }

@@ -1,5 +1,5 @@
 //! What a program makes of the data that go through it.
-ghost use Rattle.std.specs.Prelude.{◌≡◌, ◌≤◌, ℕ, List, length, take, IfOk, IfErr, OnOk, OnErr};
+ghost use Rattle.std.specs.Prelude.{◌≡◌, ◌<◌, ◌≤◌, ℕ, List, length, take, IfOk, IfErr, OnOk, OnErr};
 ghost use Rattle.dada_model.specs.Fields.{HeaderText};
 ghost use Rattle.dada_model.specs.Observation.{Observation as Described};
 ghost use Rattle.psr_base.specs.Written.{SinkSeen};
@@ -80,8 +80,8 @@ pub trait Streaming {
         ensures broke { OnErr result (BreaksHead (opens self.now observation.now)
             (leaves self.now observation.now) stream.old (K.seen out.old) (K.seen out.new)) };
 
-    /// Takes the front of data bytes, which come behind those that it took, and answers how many it took. It writes
-    /// what comes of them.
+    /// Takes the front of data bytes, which come behind those that it took, and answers how many it took: at least one,
+    /// if there is one. It writes what comes of them.
     fn feed<K: Sink>(
         &self,
         stream: &mut Self::Stream,
@@ -92,6 +92,7 @@ pub trait Streaming {
         requires { IsStreaming (streams self.now observation.now) (length bytes.now) stream.old
             (K.seen out.old) }
         ensures within { IfOk result (λ n. n ≤ length bytes.now) }
+        ensures some { IfOk result (λ n. 0 < length bytes.now → 0 < n) }
         ensures took { IfOk result (λ n. StreamsOn (streams self.now observation.now) stream.old
             (take n bytes.now) stream.new (K.seen out.old) (K.seen out.new)) }
         ensures broke { OnErr result (LeavesAt (streams self.now observation.now)

@@ -6,41 +6,9 @@ ghost use Rattle.drive_stream.specs.Streams.{IsStreaming, StreamsOn, LeavesAt};
 use crate::streaming::Streaming;
 use obs_plan::Observation;
 use psr_base::{Failed, Sink};
-use std::sync::Wait;
 
-// Gives a task all of these bytes.
-fn take_in<R: Wait, K: Sink, T: Streaming>(
-    rt: &R,
-    task: &T,
-    stream: &mut T::Stream,
-    observation: &Observation,
-    bytes: &[u8],
-    out: &mut K,
-) -> Result<(), Failed>
-    requires { IsStreaming (T.streams task.now observation.now) (length bytes.now) stream.old
-        (K.seen out.old) }
-    ensures took { OnOk result (StreamsOn (T.streams task.now observation.now) stream.old bytes.now
-        stream.new (K.seen out.old) (K.seen out.new)) }
-    ensures broke { OnErr result (LeavesAt (T.streams task.now observation.now)
-        (T.leaves task.now observation.now) stream.old bytes.now (FailedSink Midway)
-        (K.seen out.old) (K.seen out.new)) }
-{
-    let mut taken = 0;
-    for _turn in rt.forever() {
-        match task.feed(stream, observation, &bytes[taken..], out) {
-            Ok(count) => taken += count,
-            Err(failed) => return Err(failed),
-        }
-        if taken == bytes.len() {
-            return Ok(());
-        }
-    }
-    unreachable!()
-}
-
-/// Gives a task a block, unless it is empty.
-pub(crate) fn take_block<R: Wait, K: Sink, T: Streaming>(
-    rt: &R,
+/// Gives a task all of these bytes.
+pub(crate) fn take_in<K: Sink, T: Streaming>(
     task: &T,
     stream: &mut T::Stream,
     observation: &Observation,
@@ -56,11 +24,12 @@ pub(crate) fn take_block<R: Wait, K: Sink, T: Streaming>(
         (K.seen out.old) (K.seen out.new)) }
     ensures some { OnErr result (0 < length bytes.now) }
 {
-    if bytes.is_empty() {
-        return Ok(());
+    let mut taken = 0;
+    while taken < bytes.len() {
+        match task.feed(stream, observation, &bytes[taken..], out) {
+            Ok(count) => taken += count,
+            Err(failed) => return Err(failed),
+        }
     }
-    match take_in(rt, task, stream, observation, bytes, out) {
-        Ok(()) => Ok(()),
-        Err(failed) => Err(failed),
-    }
+    Ok(())
 }

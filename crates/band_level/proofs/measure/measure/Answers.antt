@@ -1,22 +1,31 @@
-use Rattle.std.proofs.Common.{◌≡◌, ℕ, length, subst, arith}
+use Rattle.std.proofs.Common.{ℕ, subst, arith}
 use Rattle.band_level.specs.Values.{cells}
 use Rattle.band_level.specs.Holding.{held_value}
-use Rattle.band_level.specs.Columns.{AreNear}
-use Rattle.band_level.specs.Levelled.{marks_cell}
-use Rattle.band_level.proofs.Measured.{fair_scales, sets_for}
+use Rattle.band_level.specs.Columns.{HoldsNear}
+use Rattle.band_level.specs.Levelled.{is_masked}
+use Rattle.band_level.specs.Rows.{scale_in}
+use Rattle.band_level.specs.Sound.{task_in}
+use Rattle.band_level.proofs.Measured.{fair_scales, some_counted}
 use Rattle.band_level.proofs.measure.measure.Goals as goal
 
 pub returns-clause-scales : goal.returns-clause-scales
 returns-clause-scales c =
-    let long : length c.measure_all.new.counts ≡ cells c.args.format = omega arith in
-    let again : length c.measure_near.new.counts ≡ cells c.args.format = omega arith in
-    let near : AreNear (cells c.args.format) c.measure_all.new.counts c.measure_all.new.totals c.measure_all.new.squares
-    c.set_bounds.new.lows c.set_bounds.new.highs = subst (λ (n : ℕ). AreNear n c.measure_all.new.counts
-    c.measure_all.new.totals c.measure_all.new.squares c.set_bounds.new.lows c.set_bounds.new.highs) long
-    c.set_bounds.ensures in
-    fair_scales c.args.plan (marks_cell c.args.masked.now c.args.format.polarisations)
-    (held_value c.args.format c.args.held.now) (cells c.args.format) c.args.count
-    _ _ _ _ _ _ _ _ _ _ _ _ _ _ _ _ _
-    c.measure_all.ensures.values c.measure_all.ensures.moments c.measure_all.ensures.some near
-    (sets_for long c.set_scales.ensures.sets) c.measure_near.ensures.moments
-    (sets_for again c.set_scales-2.ensures.sets)
+    let all = c.measure_all.new.sums in
+    let n = cells c.args.task.now.format in
+    let value = held_value c.args.task.now.format c.args.held.now in
+    let near : HoldsNear n all c.set_bounds.new.bounds =
+    subst (λ (m : ℕ). HoldsNear m all c.set_bounds.new.bounds) c.measure_all.ensures.long.counts_long
+    c.set_bounds.ensures.near in
+    fair_scales c.args.task.now.plan (is_masked (task_in c.args.task.now)) value n c.args.count
+    _ _ _ _ _ _ _ _ (scale_in c.args.scales.now) (scale_in c.set_scales.new.scales) (scale_in c.set_scales-2.new.scales)
+    c.measure_all.ensures.values c.measure_all.ensures.moments
+    (some_counted value n c.args.count all.counts.items all.totals.items all.squares.items c.requires.some
+    c.measure_all.ensures.moments)
+    near c.set_scales.ensures.sets c.measure_near.ensures.moments c.set_scales-2.ensures.sets
+
+pub set_bounds-requires-clause-some : goal.set_bounds-requires-clause-some
+set_bounds-requires-clause-some c = λ i lt.
+    let all = c.measure_all.new.sums in
+    let long = c.measure_all.ensures.long.counts_long in
+    some_counted (held_value c.args.task.now.format c.args.held.now) (cells c.args.task.now.format) c.args.count
+    all.counts.items all.totals.items all.squares.items c.requires.some c.measure_all.ensures.moments i (omega arith)

@@ -7,9 +7,9 @@ use Rattle.band_level.proofs.measure.set_scales.Given as goal
 abbrev pub invariant-loop-i : goal.invariant-loop-i
 invariant-loop-i l = record {
   fit : ScalesFit (length l.counts) l.gains l.bases l.lifts;
-  sets : SetsScales l.i l.plan (marks_cell l.masked l.polarisations)
+  sets : SetsScales l.i l.task.plan (marks_cell l.masked l.polarisations)
       (moments_held l.counts l.totals l.squares)
-      l.initial.gains l.initial.bases l.initial.lifts l.gains l.bases l.lifts;
+      (scale_held l.initial.gains l.initial.bases l.initial.lifts) (scale_held l.gains l.bases l.lifts);
   rest : (i : ℕ) → l.i ≤ i → scale_held l.gains l.bases l.lifts i
       ≡ scale_held l.initial.gains l.initial.bases l.initial.lifts i;
 }

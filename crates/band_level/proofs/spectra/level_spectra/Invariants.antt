@@ -1,11 +1,14 @@
-use Rattle.std.proofs.Common.{ℕ, ◌*◌, ◌<◌, [], take, slice_index}
-use Rattle.band_level.specs.Scales.{unit}
-use Rattle.band_level.specs.Spectra.{LevelsSpectra, task_of}
+use Rattle.std.proofs.Common.{◌*◌, [], take}
+use Rattle.band_level.specs.Values.{cells, most_value}
+use Rattle.band_level.specs.Rows.{HasRows, Narrows}
+use Rattle.band_level.specs.Sound.{task_in}
+use Rattle.band_level.specs.Spectra.{LevelsSpectra}
 use Rattle.band_level.proofs.spectra.level_spectra.Given as goal
 
 abbrev pub invariant-loop-t : goal.invariant-loop-t
 invariant-loop-t l = record {
-  carried : (i : ℕ) → slice_index l.fractions i < unit;
-  levels : LevelsSpectra (task_of l.format l.plan l.masked) l.held l.gains l.bases l.lifts l.first l.t
-      l.initial.fractions l.fractions [] (take (l.t * l.written) l.out);
+  rows : HasRows (cells l.task.format) l.rows;
+  narrow : Narrows (cells l.task.format) (most_value l.task.format) l.scales l.rows.narrow;
+  levels : LevelsSpectra (task_in l.task) l.held l.scales.gains.items l.scales.bases.items l.scales.lifts.items
+      l.first l.t l.fn.rows.fractions.items l.rows.fractions.items [] (take (l.t * l.written) l.out);
 }

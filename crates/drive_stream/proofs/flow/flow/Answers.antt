@@ -21,8 +21,8 @@ loop-turn-init g c =
       };
     }
 
-pub take_block-requires : goal.take_block-requires
-take_block-requires g c =
+pub take_in-requires : goal.take_in-requires
+take_in-requires g c =
     let i = g.I.Inputs in
     let seen = g.K.Sink.seen in
     let streams = g.T.Streaming.streams c.args.task.now c.args.observation.now in
@@ -47,8 +47,8 @@ loop-turn-preserved g c =
     let streams = g.T.Streaming.streams c.args.task.now c.args.observation.now in
     let was = c.loop-turn.invariant.flows in
     let handed = c.next-handed.result in
-    let P : List ℕ → Type 0 = λ xs. StreamsOn streams c.loop-turn.stream (take handed.used xs) c.take_block.new.stream
-    (seen c.loop-turn.out) (seen c.take_block.new.out) in
+    let P : List ℕ → Type 0 = λ xs. StreamsOn streams c.loop-turn.stream (take handed.used xs) c.take_in.new.stream
+    (seen c.loop-turn.out) (seen c.take_in.new.out) in
     record {
       same = c.next-handed.ensures.same_reference ∙ c.loop-turn.invariant.same;
       flows = record {
@@ -57,8 +57,8 @@ loop-turn-preserved g c =
         taken = one_flowed i.told i.is_calm i.faults streams c.bytes_are_joined.ensures c.args.feeder.now
             c.loop-turn.feeder c.next-handed.new.self c.args.stream.now c.loop-turn.stream (seen c.args.out.now)
             (seen c.loop-turn.out) was.taken c.next-handed.ensures.kept handed
-            (c.next-handed.ensures.hands was.taken.blocks was.taken.hands) c.take_block.new.stream
-            (seen c.take_block.new.out) (subst P c.block.ensures c.in-Ok.ensures.took);
+            (c.next-handed.ensures.hands was.taken.blocks was.taken.hands) c.take_in.new.stream
+            (seen c.take_in.new.out) (subst P c.block.ensures c.in-Ok.ensures.took);
       };
     }
 
@@ -70,8 +70,8 @@ returns-in-Some-end-clause-flowed g c =
     let was = c.loop-turn.invariant.flows in
     let next = c.next-handed.new.self in
     let handed = c.next-handed.result in
-    let P : List ℕ → Type 0 = λ xs. StreamsOn streams c.loop-turn.stream (take handed.used xs) c.take_block.new.stream
-    (seen c.loop-turn.out) (seen c.take_block.new.out) in
+    let P : List ℕ → Type 0 = λ xs. StreamsOn streams c.loop-turn.stream (take handed.used xs) c.take_in.new.stream
+    (seen c.loop-turn.out) (seen c.take_in.new.out) in
     let room = has_room i.told i.is_calm i.faults streams c.bytes_are_joined.ensures c.args.feeder.now
     c.loop-turn.feeder next c.args.stream.now c.loop-turn.stream (seen c.args.out.now) (seen c.loop-turn.out) was.taken
     c.next-handed.ensures.kept handed was.running c.requires.limit c.requires.size c.next-handed.ensures.within in
@@ -80,7 +80,7 @@ returns-in-Some-end-clause-flowed g c =
       taken = one_flowed i.told i.is_calm i.faults streams c.bytes_are_joined.ensures c.args.feeder.now
           c.loop-turn.feeder next c.args.stream.now c.loop-turn.stream (seen c.args.out.now) (seen c.loop-turn.out)
           was.taken c.next-handed.ensures.kept handed (c.next-handed.ensures.hands was.taken.blocks was.taken.hands)
-          c.take_block.new.stream (seen c.take_block.new.out) (subst P c.block.ensures c.in-Ok.ensures.took);
+          c.take_in.new.stream (seen c.take_in.new.out) (subst P c.block.ensures c.in-Ok.ensures.took);
       few = few_more (joined_bytes was.taken.blocks) (block_of next) _ handed.used
           (block_more c.bytes_are_joined.ensures was.taken.blocks handed (block_of next)) room;
     }
@@ -94,10 +94,10 @@ returns-in-Err-clause-broke g c =
     let was = c.loop-turn.invariant.flows in
     let handed = c.next-handed.result in
     let P : List ℕ → Type 0 = λ xs. LeavesAt streams leaves c.loop-turn.stream (take handed.used xs) (FailedSink Midway)
-    (seen c.loop-turn.out) (seen c.take_block.new.out) in
+    (seen c.loop-turn.out) (seen c.take_in.new.out) in
     one_breaks i.told i.is_calm i.faults streams c.bytes_are_joined.ensures c.args.feeder.now c.loop-turn.feeder
     c.next-handed.new.self c.args.stream.now c.loop-turn.stream (seen c.args.out.now) (seen c.loop-turn.out) was.taken
     c.next-handed.ensures.kept handed (c.next-handed.ensures.hands was.taken.blocks was.taken.hands) leaves
-    (seen c.take_block.new.out) c.next-handed.ensures.idle
+    (seen c.take_in.new.out) c.next-handed.ensures.idle
     (subst (λ (xs : List ℕ). 0 < length (take handed.used xs)) c.block.ensures c.in-Err.ensures.some)
     (subst P c.block.ensures c.in-Err.ensures.broke)

@@ -21,9 +21,8 @@ invariant_of-self c =
         few = s.few;
       };
       scales = c.self.invariant.scales;
+      rows = c.self.invariant.rows;
       space = c.self.invariant.space;
-      far = c.self.invariant.far;
-      narrow = c.self.invariant.narrow;
       piece = c.self.invariant.piece;
     }
 

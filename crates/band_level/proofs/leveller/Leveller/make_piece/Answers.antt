@@ -1,14 +1,13 @@
-use Rattle.std.proofs.Common.{◌≡◌, ℕ, List, refl, ◌+◌, ◌*◌, ◌/◌, ◌<◌, ◌≤◌, length, slice_index, take, ◌∙◌, sym, ap, subst, arith}
+use Rattle.std.proofs.Common.{◌≡◌, ℕ, List, [], refl, ◌+◌, ◌*◌, ◌/◌, ◌≤◌, length, take, ◌∙◌, sym, ap, subst, arith}
 use Rattle.std.proofs.Math.Nat.{mul-le-mul_right, div-mul-le_self}
 use Rattle.std.proofs.lemmas.Nat.{le-div}
-use Rattle.band_level.specs.Values.{cells}
-use Rattle.band_level.specs.Spectra.{task_of, written_bytes}
-use Rattle.band_level.specs.Scales.{unit}
+use Rattle.band_level.specs.Spectra.{LevelsSpectra, written_bytes}
+use Rattle.band_level.specs.Sound.{task_in}
 use Rattle.band_level.specs.Levelling.{Levelling}
 use Rattle.band_level.proofs.Puts.{has_fewer}
 use Rattle.band_level.proofs.Standing.{some_written}
 use Rattle.band_level.proofs.Stepping.{makes_piece}
-use Rattle.band_level.proofs.Written.{written, long_written, levels_in}
+use Rattle.band_level.proofs.Written.{written, long_written}
 use Rattle.band_level.proofs.leveller.Leveller.make_piece.Goals as goal
 
 -- as many pieces as fit
@@ -24,89 +23,49 @@ level_spectra-requires-clause-held c =
     let f = c.self.inside in
     let s = c.self.invariant.stretch in
     let order = s.order in
-    has_fewer f.format f.held (f.first + c.min-count.result) f.last (omega arith)
+    has_fewer f.task.format f.held (f.first + c.min-count.result) f.last (omega arith)
     record { same = s.same; inside = s.inside }
 
 pub level_spectra-requires-clause-room : goal.level_spectra-requires-clause-room
 level_spectra-requires-clause-room c =
-    let f = c.self.inside in
-    let row : f.row.len ≡ cells f.format =
-    sym c.as_mut_slice-5.ensures.len ∙ ap length c.as_mut_slice-5.ensures.value ∙ c.self.invariant.space.row_long in
-    let wide : c.len.result * (f.plan.bits / 8) ≡ written_bytes f.format f.plan =
-    ap (λ n. n * (f.plan.bits / 8)) (c.len.ensures ∙ row) in
-    let room = room_for c.min-count.result c.len-2.result (c.len.result * (f.plan.bits / 8)) (written_bytes f.format f.plan)
-    wide (omega arith) in
-    omega (arith, c.len-2.ensures, c.as_mut_slice-7.ensures.len)
+    let task = c.self.inside.task in
+    let room = room_for c.min-count.result c.len.result c.written_bytes-written.result
+    (written_bytes task.format task.plan) c.written_bytes-written.ensures (omega arith) in
+    omega (arith, c.len.ensures, c.as_mut_slice.ensures.len)
 
 pub invariant_of-self : goal.invariant_of-self
 invariant_of-self c =
     let f = c.self.inside in
-    let space = c.self.invariant.space in
-    let p = c.self.invariant.piece in
-    let row : f.row.len ≡ cells f.format =
-    sym c.as_mut_slice-5.ensures.len ∙ ap length c.as_mut_slice-5.ensures.value ∙ space.row_long in
     let piece_long : f.piece.len ≡ length f.piece.items =
-    sym c.as_mut_slice-7.ensures.len ∙ ap length c.as_mut_slice-7.ensures.value in
-    let fr = written c.level_spectra.new.fractions f.fractions.items f.fractions.len
-    (c.level_spectra.auto.fractions ∙ c.as_mut_slice-4.ensures.len) in
-    let wide : c.len.result * (f.plan.bits / 8) ≡ written_bytes f.format f.plan =
-    ap (λ n. n * (f.plan.bits / 8)) (c.len.ensures ∙ row) in
-    let part : c.min-count.result * (c.len.result * (f.plan.bits / 8)) ≤ c.len-2.result =
-    room_for c.min-count.result c.len-2.result (c.len.result * (f.plan.bits / 8)) (c.len.result * (f.plan.bits / 8))
+    sym c.as_mut_slice.ensures.len ∙ ap length c.as_mut_slice.ensures.value in
+    let part : c.min-count.result * c.written_bytes-written.result ≤ c.len.result =
+    room_for c.min-count.result c.len.result c.written_bytes-written.result c.written_bytes-written.result
     refl (omega arith) in
     let long = long_written c.level_spectra.new.out f.piece.items f.piece.len (length f.piece.items)
-    (c.level_spectra.auto.out ∙ c.as_mut_slice-7.ensures.len) piece_long in
+    (c.level_spectra.auto.out ∙ c.as_mut_slice.ensures.len) piece_long in
     record {
       task = c.self.invariant.task;
       stretch = c.self.invariant.stretch;
       scales = c.self.invariant.scales;
-      space = record {
-        row_long = long_written c.level_spectra.new.row _ _ _ (c.level_spectra.auto.row ∙ c.as_mut_slice-5.ensures.len) row;
-        lows_long = space.lows_long;
-        highs_long = space.highs_long;
-        counts_long = space.counts_long;
-        totals_long = space.totals_long;
-        squares_long = space.squares_long;
-      };
-      far = c.self.invariant.far;
-      narrow = record {
-        gains_long = long_written c.level_spectra.new.narrow_gains _ _ _
-            (c.level_spectra.auto.narrow_gains ∙ c.as_mut_slice.ensures.len)
-            (sym c.as_mut_slice.ensures.len ∙ ap length c.as_mut_slice.ensures.value ∙ c.self.invariant.narrow.gains_long);
-        bases_long = long_written c.level_spectra.new.narrow_bases _ _ _
-            (c.level_spectra.auto.narrow_bases ∙ c.as_mut_slice-2.ensures.len)
-            (sym c.as_mut_slice-2.ensures.len ∙ ap length c.as_mut_slice-2.ensures.value ∙ c.self.invariant.narrow.bases_long);
-        lifts_long = long_written c.level_spectra.new.narrow_lifts _ _ _
-            (c.level_spectra.auto.narrow_lifts ∙ c.as_mut_slice-3.ensures.len)
-            (sym c.as_mut_slice-3.ensures.len ∙ ap length c.as_mut_slice-3.ensures.value ∙ c.self.invariant.narrow.lifts_long);
-      };
+      rows = c.level_spectra.ensures.rows;
+      space = c.self.invariant.space;
       piece = record {
-        fractions_long = long_written c.level_spectra.new.fractions _ _ _
-            (c.level_spectra.auto.fractions ∙ c.as_mut_slice-4.ensures.len)
-            (sym c.as_mut_slice-4.ensures.len ∙ ap length c.as_mut_slice-4.ensures.value ∙ p.fractions_long);
-        carried = λ i. subst (λ (xs : List ℕ). slice_index xs i < unit) (sym fr) (c.level_spectra.ensures.carried i);
-        levels_long = long_written c.level_spectra.new.levels _ _ _
-            (c.level_spectra.auto.levels ∙ c.as_mut_slice-6.ensures.len)
-            (sym c.as_mut_slice-6.ensures.len ∙ ap length c.as_mut_slice-6.ensures.value ∙ p.levels_long);
-        made_in = omega (arith, c.len-2.ensures, long, piece_long);
-        room = let e = p.room in omega (arith, long);
+        made_in = omega (arith, c.len.ensures, long, piece_long);
+        room = let e = c.self.invariant.piece.room in omega (arith, long);
       };
     }
 
 pub returns-clause-some : goal.returns-clause-some
 returns-clause-some c =
     let f = c.self.inside in
-    let row : f.row.len ≡ cells f.format =
-    sym c.as_mut_slice-5.ensures.len ∙ ap length c.as_mut_slice-5.ensures.value ∙ c.self.invariant.space.row_long in
     let piece_long : f.piece.len ≡ length f.piece.items =
-    sym c.as_mut_slice-7.ensures.len ∙ ap length c.as_mut_slice-7.ensures.value in
-    let wide : c.len.result * (f.plan.bits / 8) ≡ written_bytes f.format f.plan =
-    ap (λ n. n * (f.plan.bits / 8)) (c.len.ensures ∙ row) in
+    sym c.as_mut_slice.ensures.len ∙ ap length c.as_mut_slice.ensures.value in
+    let wide = c.written_bytes-written.ensures in
     let task = c.self.invariant.task in
-    let some = some_written f.format f.plan task.format task.plan in
+    let some = some_written f.task.format f.task.plan task.format task.plan in
     let room = c.self.invariant.piece.room in
-    let one : 1 ≤ c.len-2.result / (c.len.result * (f.plan.bits / 8)) =
-    le-div 1 c.len-2.result (c.len.result * (f.plan.bits / 8)) (omega arith) (omega (arith, c.len-2.ensures)) in
+    let one : 1 ≤ c.len.result / c.written_bytes-written.result =
+    le-div 1 c.len.result c.written_bytes-written.result (omega arith) (omega (arith, c.len.ensures)) in
     let first = ap (λ (o : Levelling). o.first) c.self.view_is in
     let last = ap (λ (o : Levelling). o.last) c.self.view_is in
     omega arith
@@ -114,19 +73,13 @@ returns-clause-some c =
 pub returns-clause-makes : goal.returns-clause-makes
 returns-clause-makes c =
     let f = c.self.inside in
-    let row : f.row.len ≡ cells f.format =
-    sym c.as_mut_slice-5.ensures.len ∙ ap length c.as_mut_slice-5.ensures.value ∙ c.self.invariant.space.row_long in
-    let wide : c.len.result * (f.plan.bits / 8) ≡ written_bytes f.format f.plan =
-    ap (λ n. n * (f.plan.bits / 8)) (c.len.ensures ∙ row) in
-    let fr = written c.level_spectra.new.fractions f.fractions.items f.fractions.len
-    (c.level_spectra.auto.fractions ∙ c.as_mut_slice-4.ensures.len) in
+    let s = f.scales in
     let out = written c.level_spectra.new.out f.piece.items f.piece.len
-    (c.level_spectra.auto.out ∙ c.as_mut_slice-7.ensures.len) in
+    (c.level_spectra.auto.out ∙ c.as_mut_slice.ensures.len) in
     let order = c.self.invariant.stretch.order in
     makes_piece _ c.args.self.now c.min-count.result _ _ c.self.view_is (omega arith)
-    (levels_in _ _ _ _ _ _ _ _ _ _ _ _ _ _ _ _ f.first c.min-count.result
-    (ap (task_of f.format f.plan) c.as_slice.ensures.value) refl c.as_slice-2.ensures.value
-    c.as_slice-3.ensures.value c.as_slice-4.ensures.value c.as_mut_slice-4.ensures.value (sym fr)
-    (ap (λ n. take (c.min-count.result * n) c.level_spectra.new.out) (sym wide)
-    ∙ ap (λ (xs : List ℕ). take (c.min-count.result * (c.len.result * (f.plan.bits / 8))) xs) (sym out))
+    (subst (λ (xs : List ℕ). LevelsSpectra (task_in f.task) f.held s.gains.items s.bases.items s.lifts.items f.first
+    c.min-count.result f.rows.fractions.items c.level_spectra.new.rows.fractions.items [] xs)
+    (ap (λ n. take (c.min-count.result * n) c.level_spectra.new.out) (sym c.written_bytes-written.ensures)
+    ∙ ap (λ (xs : List ℕ). take (c.min-count.result * c.written_bytes-written.result) xs) (sym out))
     c.level_spectra.ensures.levels)

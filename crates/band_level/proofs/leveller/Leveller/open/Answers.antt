@@ -3,10 +3,9 @@ use Rattle.std.proofs.Math.Nat.{mul-le-mul}
 use Rattle.band_level.specs.declared.format.Format.{Format}
 use Rattle.band_level.specs.declared.plan.Plan.{Plan}
 use Rattle.band_level.specs.Ranges.{FormatInRange, PlanInRange}
-use Rattle.band_level.specs.Values.{cells}
 use Rattle.band_level.specs.Spectra.{written_bytes}
 use Rattle.band_level.proofs.Ending.{starts}
-use Rattle.band_level.proofs.Written.{zero_at, zero_long, zero_scales, piece_most, piece_least}
+use Rattle.band_level.proofs.Written.{zero_long, piece_most, piece_least}
 use Rattle.band_level.proofs.leveller.Leveller.open.Goals as goal
 
 -- no spectrum is longer than this
@@ -36,7 +35,6 @@ overflow_mul-max c = record {
 
 pub invariant_of-result : goal.invariant_of-result
 invariant_of-result c =
-    let n = cells c.args.format in
     let some = c.requires.plan.some_spectra in
     let least : written_bytes c.args.format c.args.plan ≤ c.max.result * written_bytes c.args.format c.args.plan =
     let same : c.max.result * written_bytes c.args.format c.args.plan
@@ -57,29 +55,10 @@ invariant_of-result c =
         inside = omega arith;
         few = omega arith;
       };
-      scales = zero_scales n _ _ _ c.in_ok-longs.ensures c.in_ok-longs-2.ensures c.in_ok-longs-3.ensures;
-      space = record {
-        row_long = zero_long c.in_ok-words-5.field-0.items n c.in_ok-words-5.ensures;
-        lows_long = zero_long c.in_ok-words-7.field-0.items n c.in_ok-words-7.ensures;
-        highs_long = zero_long c.in_ok-words-8.field-0.items n c.in_ok-words-8.ensures;
-        counts_long = zero_long c.in_ok-words-9.field-0.items n c.in_ok-words-9.ensures;
-        totals_long = zero_long c.in_ok-longs-4.field-0.items n c.in_ok-longs-4.ensures;
-        squares_long = zero_long c.in_ok-longs-5.field-0.items n c.in_ok-longs-5.ensures;
-      };
-      far = record {
-        counts_long = zero_long c.in_ok-words-10.field-0.items n c.in_ok-words-10.ensures;
-        totals_long = zero_long c.in_ok-longs-6.field-0.items n c.in_ok-longs-6.ensures;
-        squares_long = zero_long c.in_ok-longs-7.field-0.items n c.in_ok-longs-7.ensures;
-      };
-      narrow = record {
-        gains_long = zero_long c.in_ok-words-2.field-0.items n c.in_ok-words-2.ensures;
-        bases_long = zero_long c.in_ok-words-3.field-0.items n c.in_ok-words-3.ensures;
-        lifts_long = zero_long c.in_ok-words-4.field-0.items n c.in_ok-words-4.ensures;
-      };
+      scales = c.in_ok-open-2.ensures;
+      rows = c.in_ok-open-3.ensures.rows;
+      space = c.in_ok-open-4.ensures;
       piece = record {
-        fractions_long = zero_long c.in_ok-words.field-0.items n c.in_ok-words.ensures;
-        carried = λ i. omega (arith, zero_at c.in_ok-words.field-0.items n c.in_ok-words.ensures i);
-        levels_long = zero_long c.in_ok-words-6.field-0.items n c.in_ok-words-6.ensures;
         made_in = omega arith;
         room = omega (arith, least, piece);
       };
@@ -89,4 +68,4 @@ pub returns-clause-nothing : goal.returns-clause-nothing
 returns-clause-nothing c =
     let some = c.requires.plan.some_spectra in
     starts _ c.requires.format (omega arith) c.in_ok-open.ensures.nothing refl refl refl refl
-    (zero_at c.in_ok-words.field-0.items (cells c.args.format) c.in_ok-words.ensures)
+    c.in_ok-open-3.ensures.nothing

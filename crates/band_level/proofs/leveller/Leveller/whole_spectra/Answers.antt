@@ -19,23 +19,23 @@ pub returns-clause-few : goal.returns-clause-few
 returns-clause-few c =
     let f = c.self.inside in
     let s = c.self.invariant.stretch in
-    let size = spectrum_bytes f.format in
+    let size = spectrum_bytes f.task.format in
     let is = subst (λ (g : Format). c.whole_spectra.result ≡ held_bytes g f.held / spectrum_bytes g) s.same
     c.whole_spectra.ensures.count in
     let fits = subst (λ (g : Format). held_bytes g f.held ≤ f.held.room) s.same c.whole_spectra.ensures.inside in
     let room = s.room in
-    let part : c.whole_spectra.result * size ≡ held_bytes f.format f.held / size * size = ap (λ n. n * size) is in
-    let few : c.whole_spectra.result ≤ f.plan.spectra = as_few c.whole_spectra.result f.plan.spectra size
-    (some_bytes f.format c.self.invariant.task.format)
-    (omega (arith, div-mul-le_self (held_bytes f.format f.held) size)) in
+    let part : c.whole_spectra.result * size ≡ held_bytes f.task.format f.held / size * size = ap (λ n. n * size) is in
+    let few : c.whole_spectra.result ≤ f.task.plan.spectra = as_few c.whole_spectra.result f.task.plan.spectra size
+    (some_bytes f.task.format c.self.invariant.task.format)
+    (omega (arith, div-mul-le_self (held_bytes f.task.format f.held) size)) in
     subst (λ (o : Levelling). c.whole_spectra.result ≤ o.task.plan.spectra) c.self.view_is few
 
 pub returns-clause-inside : goal.returns-clause-inside
 returns-clause-inside c =
     let f = c.self.inside in
-    let size = spectrum_bytes f.format in
+    let size = spectrum_bytes f.task.format in
     let is = subst (λ (g : Format). c.whole_spectra.result ≡ held_bytes g f.held / spectrum_bytes g)
     c.self.invariant.stretch.same c.whole_spectra.ensures.count in
-    let part : c.whole_spectra.result * size ≡ held_bytes f.format f.held / size * size = ap (λ n. n * size) is in
+    let part : c.whole_spectra.result * size ≡ held_bytes f.task.format f.held / size * size = ap (λ n. n * size) is in
     subst (λ (o : Levelling). c.whole_spectra.result * spectrum_bytes o.task.format ≤ held_bytes o.task.format o.held)
-    c.self.view_is (omega (arith, div-mul-le_self (held_bytes f.format f.held) size))
+    c.self.view_is (omega (arith, div-mul-le_self (held_bytes f.task.format f.held) size))

@@ -16,3 +16,8 @@ returns-in-Err-clause-broke g c = λ header bytes start was.
     c.levels_are_fronts.ensures c.args.stream.now c.feed-count.new.self c.drain.new.leveller bytes c.args.bytes.now
     c.feed-count.result start (seen c.args.out.now) (seen c.drain.new.out) was c.feed-count.ensures.takes
     c.in-Err.ensures.broke
+
+pub returns-in-Ok-clause-some : goal.returns-in-Ok-clause-some
+returns-in-Ok-clause-some g c =
+    let was = c.requires.stands in
+    c.feed-count.ensures.some c.requires.bytes was.text was.levels was.goes_on was.drained
