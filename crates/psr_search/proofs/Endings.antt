@@ -1,7 +1,8 @@
 -- How a search ends: before all data were sealed, or with its text.
-use Rattle.std.proofs.Common.{◌≡◌, ◌≢◌, ℕ, ◌≤◌, ◌<◌, List, [], ◌∷◌, ◌++◌, refl, sym, ap, ◌∙◌, subst, Some, None, true, Contains, lit<, arith}
+use Rattle.std.proofs.Common.{◌≡◌, ◌≢◌, ℕ, ◌≤◌, ◌<◌, List, [], ◌∷◌, ◌++◌, refl, sym, ap, ◌∙◌, subst, Some, None, true, false, Contains, lit<, arith, inl, inr}
 use Rattle.std.proofs.lemmas.List.Elements.{Contains-append_left, Contains-append_right}
-use Rattle.std.specs.Prelude.{Option, IfSome}
+use Rattle.std.specs.Prelude.{Option, IfSome, ◌⊎◌}
+use Rattle.psr_base.specs.Count.{Rose}
 use Rattle.psr_base.specs.Told.{Told, InputsSeen}
 use Rattle.psr_base.specs.Made.{FilesSeen}
 use Rattle.psr_base.specs.Written.{SinkSeen, WroteAll, WroteFront}
@@ -21,7 +22,7 @@ use Rattle.run_stop.specs.declared.stop.Stop.TheVariants.{Words, Value, Header, 
 use Rattle.run_stop.specs.Texts.{status_of}
 use Rattle.run_stop.specs.Conversions.{stop_of_feed}
 use Rattle.run_stop.specs.Runs.{Searching, stream_for, observed_transfers, CanBegin, HasCandidates}
-use Rattle.run_stop.specs.Outcomes.{AllCleared, TellsNotes}
+use Rattle.run_stop.specs.Outcomes.{AllCleared, LeavesFiles, TellsNotes}
 use Rattle.run_stop.specs.Ends.{EndsRun, EndsShort, short_statuses, EndAtStop, EndAfterWhole, RunsThrough, IsLate, WordsSayOnce, end_status}
 use Rattle.psr_search.specs.Outcome.{ForSearch, HasText, WritesText, ClearsBlocks, Outcome}
 use Rattle.psr_search.specs.Ends.{Ends, EndsSearch, EndsFed}
@@ -307,3 +308,32 @@ outcome words inputs is_calm files_before files_after out_before out_after notes
       recorded = run.ends.recorded;
       noted = noted;
     }
+
+-- ---- what is left of the files
+
+module _ (words : List (List ℕ)) {F : Type 0} (files_open : F → Type 0) (seen : F → FilesSeen) (before after : F) where
+  -- they stand
+  pub stand : (blocks : Option Finished) (status : ℕ) → after ≡ before →
+      LeavesFiles Searching words files_open seen before after blocks status
+  stand blocks status same = record {
+    before_session = λ none. same;
+    unrecorded = λ s says not. same;
+    closed = λ quiet shut. subst (λ (files : F). ¬ files_open files) (sym same) shut;
+  }
+
+  pub leaves_closed : WordsSayOnce → (s0 : SettingsSeen) (blocks : Finished) (recorded : Option RecordEnd)
+      (status : ℕ) → SaySearch words s0 → (s0.recording ≡ false → after ≡ before) →
+      (recorded ≡ Some recorder.FileFault → Rose (seen before).faults (seen after).faults) →
+      (recorded ≢ Some recorder.FileFault → ¬ files_open before → ¬ files_open after) →
+      (status ≡ 0 → recorded ≢ Some recorder.FileFault) →
+      LeavesFiles Searching words files_open seen before after (Some blocks) status
+  leaves_closed once s0 blocks recorded status says0 stands rose closed whole = record {
+    before_session = λ none. absurd cc;
+    unrecorded = λ s says not.
+        stands (subst (λ (t : SettingsSeen). t.recording ≡ false) (once Searching words s s0 says says0) not);
+    closed = λ quiet shut. closed (fine quiet) shut;
+  }
+    where
+      fine : (status ≡ 0) ⊎ ¬ Rose (seen before).faults (seen after).faults → recorded ≢ Some recorder.FileFault
+      fine (inl zeroth) = whole zeroth
+      fine (inr never) = λ failed. never (rose failed)

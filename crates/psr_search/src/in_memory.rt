@@ -1,7 +1,7 @@
 // A search over objects in memory.
 ghost use Rattle.std.specs.Prelude.{◌≡◌, [], map, string_bytes};
 ghost use Rattle.psr_base.specs.InMemory.{told_of, calls_of, files_seen, sink_seen, IsMaking};
-ghost use Rattle.run_stop.specs.Outcomes.{ReadsNoData, LeavesAtFault};
+ghost use Rattle.run_stop.specs.Outcomes.{ReadsNoData, LeavesAtFault, LeavesFiles};
 ghost use Rattle.run_stop.specs.Runs.{Searching};
 ghost use Rattle.psr_search.specs.Outcome.{AsksToRecord, Outcome};
 
@@ -39,6 +39,8 @@ pub fn run_in_memory<G: Gate + Sync, R: Threads + Wait + Clock + Sync>(
         (told_of inputs.old) (told_of inputs.new) }
     ensures broken { result.status ≡ 6 → LeavesAtFault Searching (map string_bytes words.now)
         ((calls_of inputs.old).fail ≡ []) (told_of inputs.old) (told_of inputs.new) result.blocks }
+    ensures left { LeavesFiles Searching (map string_bytes words.now) IsMaking files_seen files.old
+        files.new result.blocks result.status }
 {
     run(rt, alloc, words, inputs, files, out, notes, gate)
 }

@@ -1,6 +1,6 @@
 // The top call.
-ghost use Rattle.std.specs.Prelude.{◌≡◌, Some, map, string_bytes};
-ghost use Rattle.run_stop.specs.Outcomes.{ReadsNoData, LeavesAtFault};
+ghost use Rattle.std.specs.Prelude.{◌≡◌, ℕ, Some, None, map, string_bytes};
+ghost use Rattle.run_stop.specs.Outcomes.{ReadsNoData, LeavesAtFault, LeavesFiles};
 ghost use Rattle.run_stop.specs.Runs.{Searching};
 ghost use Rattle.psr_search.specs.Outcome.{AsksToRecord, Outcome};
 ghost use Rattle.psr_search.specs.Ends.{Ends};
@@ -52,6 +52,8 @@ pub fn run<
         (I.told inputs.old) (I.told inputs.new) }
     ensures broken { result.status ≡ 6 → LeavesAtFault Searching (map string_bytes words.now)
         (I.is_calm inputs.old) (I.told inputs.old) (I.told inputs.new) result.blocks }
+    ensures left { LeavesFiles Searching (map string_bytes words.now) F.is_open F.seen files.old
+        files.new result.blocks result.status }
 {
     let ProgramEnd { stop, blocks } = search(rt, alloc, words, inputs, files, out, gate);
     let status = tell(stop, notes);
@@ -89,6 +91,9 @@ fn search<
     ensures broken { result.stop ≡ Some Stop.ReadFault
         → LeavesAtFault Searching (map string_bytes words.now) (I.is_calm inputs.old)
         (I.told inputs.old) (I.told inputs.new) result.blocks }
+    ensures left { (status : ℕ) → (status ≡ 0 → result.stop ≡ None)
+        → LeavesFiles Searching (map string_bytes words.now) F.is_open F.seen files.old files.new
+        result.blocks status }
 {
     end_at_words::<I>();
     words_say_once();

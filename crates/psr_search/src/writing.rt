@@ -4,6 +4,7 @@ ghost use Rattle.search_model.specs.Search.{SettingsInRange};
 ghost use Rattle.transfer_text.specs.Searched.{ObservedTransfer, candidate_total};
 ghost use Rattle.transfer_text.specs.Found.{HoldTransfers};
 ghost use Rattle.disk_feeder.specs.declared.answers.FeedEnd.TheVariants.{Whole, ReadFault};
+ghost use Rattle.dada_recorder.specs.declared.answers.RecordEnd.TheVariants.{FileFault};
 ghost use Rattle.run_stop.specs.Conversions.{stop_of_feed};
 ghost use Rattle.psr_search.specs.Ends.{EndsSearch, EndsFed};
 
@@ -25,6 +26,7 @@ fn write_text<K: Sink>(search: &Search, found: &Found, out: &mut K) -> Option<St
         found.now.spectra.items → EndsSearch search.now transfers found.now.recorded
         (K.seen out.old) (K.seen out.new) result }
     ensures no_read_fault { result ≢ Some Stop.ReadFault }
+    ensures quiet { result ≡ None → found.now.recorded ≢ Some FileFault }
 {
     match write_found(
         search,
@@ -50,6 +52,7 @@ pub(crate) fn write_end<K: Sink>(search: &Search, found: &Found, out: &mut K) ->
     ensures stopped { IfSome (stop_of_feed found.now.feed) (λ fed. (result ≡ Some fed)
         × (K.seen out.new ≡ K.seen out.old)) }
     ensures read_fault { result ≡ Some Stop.ReadFault → found.now.feed ≡ ReadFault }
+    ensures quiet { result ≡ None → found.now.recorded ≢ Some FileFault }
     ensures ended { (transfers : List ObservedTransfer) → HoldTransfers search.now transfers
         found.now.observations.items (map (λ row. row.items) found.now.books.items)
         found.now.spectra.items → EndsFed (stop_of_feed found.now.feed) search.now transfers

@@ -8,3 +8,6 @@ returns-clause-outcome g c =
 
 pub returns-clause-broken : goal.returns-clause-broken
 returns-clause-broken g c = λ failed. c.search-stop.ensures.broken (c.tell-status.ensures.read_fault failed)
+
+pub returns-clause-left : goal.returns-clause-left
+returns-clause-left g c = c.search-stop.ensures.left c.tell-status.result c.tell-status.ensures.none

@@ -2,7 +2,7 @@ use Rattle.std.proofs.Common.{◌≡◌, Some, refl, ap}
 use Rattle.run_stop.specs.declared.stop.Stop.{Stop}
 use Rattle.run_stop.specs.declared.stop.Stop.TheVariants.{ReadFault}
 use Rattle.run_stop.specs.Conversions.{stop_of_feed}
-use Rattle.psr_search.proofs.Endings.{at_once, after_session}
+use Rattle.psr_search.proofs.Endings.{at_once, after_session, stand, leaves_closed}
 use Rattle.psr_search.proofs.top.search.Goals as goal
 
 pub drive-requires-clause-drivable : goal.drive-requires-clause-drivable
@@ -59,3 +59,23 @@ one_stop a b e = cc
 pub returns-clause-broken : goal.returns-clause-broken
 returns-clause-broken g c = λ failed.
     c.in-Err-drive.ensures.leaves.broken (one_stop c.in-Err-drive.stop ReadFault failed) _ c.in-Ok.ensures.says
+
+-- ---- what is left of the files
+
+pub returns-in-Err-clause-left : goal.returns-in-Err-clause-left
+returns-in-Err-clause-left g c = λ status zeroth.
+    stand _ g.F.Files.is_open g.F.Files.seen c.args.files.now c.args.files.now _ status refl
+
+pub returns-in-Ok-drive-clause-left : goal.returns-in-Ok-drive-clause-left
+returns-in-Ok-drive-clause-left g c = λ status zeroth.
+    let r = c.in-Ok-drive.ensures in
+    let driven = r.driven in
+    let says = c.in-Ok.ensures.says in
+    let found = c.in-Ok-drive.found in
+    leaves_closed _ g.F.Files.is_open g.F.Files.seen c.args.files.now c.drive.new.files c.words_say_once.ensures _
+    found.blocks found.recorded status says driven.stands (driven.recorded _ says).rose driven.closed
+    (λ zero. c.write_end-stop.ensures.quiet (zeroth zero))
+
+pub returns-clause-left : goal.returns-clause-left
+returns-clause-left g c = λ status zeroth.
+    stand _ g.F.Files.is_open g.F.Files.seen c.args.files.now c.drive.new.files _ status c.in-Err-drive.ensures.stands
