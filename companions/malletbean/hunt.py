@@ -71,12 +71,12 @@ def psr_hunt(words: Sequence[str]) -> None:
     check_engine(asked)
     programs = programs_of(converter)
     with hunt_folder(asked.folder) as folder:
-        hunt = begun_hunt(asked, folder, paths, converter, programs, count)
-        if os.path.exists(os.path.join(folder, "summary")):
-            sys.stdout.write(bytes_of(os.path.join(folder, "summary")).decode())
-            return
         try:
-            run_hunt(asked, folder, hunt, begun)
+            hunt = begun_hunt(asked, folder, paths, converter, programs, count)
+            if os.path.exists(os.path.join(folder, "summary")):
+                sys.stdout.write(bytes_of(os.path.join(folder, "summary")).decode())
+            else:
+                run_hunt(asked, folder, hunt, begun)
         except Stopped as stopped:
             stopped.advice = "; give the same command again to continue"
             raise
