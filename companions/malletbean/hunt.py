@@ -96,8 +96,8 @@ def parsed(words: Sequence[str]) -> argparse.Namespace:
     parser.add_argument("--widths", metavar="W", type=int,
                         help="the widest pulse to look for, in spectra of FILE (those of 32 ms)")
     parser.add_argument("--mask", metavar="MASK", default="auto",
-                        help="channels to leave out: auto (those that look bad; the default), none, or a mask as "
-                             "psr_mask takes it")
+                        help="channels to leave out: auto (those that look bad; the default), none, or a mask like "
+                             "3,17-19, counted from 0 in file order")
     parser.add_argument("--clip", metavar="Z", type=decimal,
                         help="leave out spectra whose sum over the band is more than Z deviations off (off)")
     parser.add_argument("--keep-bursts", action="store_true",
