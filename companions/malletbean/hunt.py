@@ -71,12 +71,12 @@ def psr_hunt(words: Sequence[str]) -> None:
     check_engine(asked)
     programs = programs_of(converter)
     with hunt_folder(asked.folder) as folder:
-        hunt = begun_hunt(asked, folder, paths, converter, programs, count)
-        if os.path.exists(os.path.join(folder, "summary")):
-            sys.stdout.write(bytes_of(os.path.join(folder, "summary")).decode())
-            return
         try:
-            run_hunt(asked, folder, hunt, begun)
+            hunt = begun_hunt(asked, folder, paths, converter, programs, count)
+            if os.path.exists(os.path.join(folder, "summary")):
+                sys.stdout.write(bytes_of(os.path.join(folder, "summary")).decode())
+            else:
+                run_hunt(asked, folder, hunt, begun)
         except Stopped as stopped:
             stopped.advice = "; give the same command again to continue"
             raise
@@ -96,8 +96,8 @@ def parsed(words: Sequence[str]) -> argparse.Namespace:
     parser.add_argument("--widths", metavar="W", type=int,
                         help="the widest pulse to look for, in spectra of FILE (those of 32 ms)")
     parser.add_argument("--mask", metavar="MASK", default="auto",
-                        help="channels to leave out: auto (those that look bad; the default), none, or a mask as "
-                             "psr_mask takes it")
+                        help="channels to leave out: auto (those that look bad; the default), none, or a mask like "
+                             "3,17-19, counted from 0 in file order")
     parser.add_argument("--clip", metavar="Z", type=decimal,
                         help="leave out spectra whose sum over the band is more than Z deviations off (off)")
     parser.add_argument("--keep-bursts", action="store_true",

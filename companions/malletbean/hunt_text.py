@@ -209,9 +209,9 @@ def cut_line(hunt: Hunt) -> str:
     for search in hunt.searches:
         if search.raised:
             seconds = sum(one.until - one.first for one in search.raised) * search.average * hunt.observation.tsamp
-            least, most = min(one.snr for one in search.raised), max(one.snr for one in search.raised)
-            left.append(f"{search.name}: {seconds:.1f} s had too many lines: searched from S/N {least:g} to {most:g} "
-                        "on")
+            ratios = sorted({f"{one.snr:g}" for one in search.raised}, key=float)
+            left.append(f"{search.name}: {seconds:.1f} s had too many lines: searched from S/N "
+                        f"{' to '.join(dict.fromkeys((ratios[0], ratios[-1])))} on")
     return "; ".join(left) or "nothing"
 
 

@@ -56,18 +56,18 @@ def write_report(folder: str, most: int = 20) -> None:
     """Writes the report of the hunt in a folder, with a picture of each of the first `most` candidates."""
     hunt = read_manifest(folder)
     searches = searches_of(folder, hunt)
-    table = candidates_of(folder, hunt, searches)
+    table, folds = candidates_of(folder, hunt, searches), folds_of(folder, hunt)
     text = jinja2.Environment(autoescape=True).from_string(PAGE).render(
-        **said_of(hunt, table), **rows_of(table, most), **searches_said(folder, hunt),
+        **said_of(hunt, table, folds), **rows_of(table, most), **searches_said(folder, hunt),
         observation=observation_lines(hunt), header=header_of(folder, hunt),
-        overview=embedded(overview(dots_of(searches), table)), folds=folds_of(folder, hunt),
+        overview=embedded(overview(dots_of(searches), table)), folds=folds,
         pictures=pictures_of(folder, hunt, searches, table[:most]),
     )
     with whole_file(os.path.join(folder, "report.html")) as name, open(name, "w", encoding="utf-8") as file:
         file.write(text)
 
 
-def said_of(hunt: Hunt, table: Array) -> dict[str, Any]:
+def said_of(hunt: Hunt, table: Array, folds: Sequence[dict[str, str]]) -> dict[str, Any]:
     """What stands at the top and at the end of the page."""
     sky = hunt.observation
     top, foot = sky.freq + abs(sky.bw) / 2, sky.freq - abs(sky.bw) / 2
@@ -80,6 +80,7 @@ def said_of(hunt: Hunt, table: Array) -> dict[str, Any]:
         "subtitle": ", ".join(part for part in named if part),
         "tiles": [(len(clean), "candidates without a flag"), (len(table) - len(clean), "candidates with a flag"),
                   (strongest_one, "strongest S/N without a flag"),
+                  *((one["brief"], "strongest fold") for one in folds[:1]),
                   (f"{hunt.dm_low:g} to {hunt.dm_high:g}", "DM in pc/cm³"), (f"{hunt.snr:g}", "least S/N looked for")],
         "flags": FLAG_MEANINGS,
         "plan": hunt.plan,
@@ -228,5 +229,6 @@ def folds_of(folder: str, hunt: Hunt) -> list[dict[str, str]]:
     asked = [(os.path.join(folder, hunt.level(one).path), hunt.mask, int(row["delay"]), float(row["period_s"]))
              for one, row in chosen]
     return [{"title": f"{row['period_s'] * 1000:.6f} ms at DM {row['dm']:.3f}: S/N {row['snr']:.1f} over {row['rows']} "
-                      f"periods ({one.name})", "source": source, "why": why}
+                      f"periods ({one.name})", "brief": f"{row['snr']:.1f} at {row['period_s'] * 1000:.6g} ms",
+             "source": source, "why": why}
             for (one, row), (source, why) in zip(chosen, beside_each_other(fold_source, asked))]

@@ -1,6 +1,7 @@
 """Where the package and the stored texts are, and the observations that these texts are of."""
 from __future__ import annotations
 
+import signal
 import sys
 from pathlib import Path
 
@@ -11,6 +12,9 @@ DATA = HERE / "data"
 sys.path[:0] = [str(HERE), str(HERE.parent)]
 
 import made  # noqa: E402
+
+# a shell ignores SIGINT for jobs in the background, and so would the programs that tests stop by it
+signal.signal(signal.SIGINT, signal.default_int_handler)
 
 
 @pytest.fixture(scope="session")

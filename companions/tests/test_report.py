@@ -164,7 +164,8 @@ def test_the_report_asks_nothing_of_a_network(report: str) -> None:
 def test_what_the_report_says(report: str, table: Array) -> None:
     for text in ("J0000+0000", "sky &lt;&amp;&gt;.dada", "psr_hunt sky.dada --dm 0 200",
                  "psr_search --mean 64 &lt;k1.dada", "ab" * 32, "1.25", "level  averaged", "Mask</th><td>3",
-                 f"{PERIOD * BAND.seconds * 1000:.6f} ms"):
+                 f"{PERIOD * BAND.seconds * 1000:.6f} ms",
+                 f" at {PERIOD * BAND.seconds * 1000:.6g} ms</b><span>strongest fold"):
         assert text in report, text
     assert report.count("<tr data-snr") == len(table)
     assert all(f'id="candidate-{number}"' in report for number in (1, 2, 3))
@@ -178,7 +179,8 @@ def test_a_report_of_nothing(folder: str, tmp_path: Path) -> None:
         (tmp_path / "a" / f"{name}.text").write_text(f"END 0 0 {spectra}\n")
     assert len(write_candidates(str(tmp_path / "a"))) == 0
     write_report(str(tmp_path / "a"))
-    assert "There is no candidate." in (tmp_path / "a" / "report.html").read_text()
+    text = (tmp_path / "a" / "report.html").read_text()
+    assert "There is no candidate." in text and "strongest fold" not in text
 
 
 def test_series_of_candidates(folder: str, table: Array) -> None:
