@@ -25,6 +25,8 @@ FORMATS = {
     "period_s": "%.9f", "width_ms": "%.6f",
 }
 JSON_VERSION = 1
+# a pulse may be found so many errors of its dispersion measure below it
+DM_ERRORS = 3
 
 
 def write_candidates(folder: str) -> Array:
@@ -47,9 +49,9 @@ def write_candidates(folder: str) -> Array:
 def candidates_of(folder: str, hunt: Hunt, searches: Sequence[Searched]) -> Array:
     """The candidates of a hunt, the strongest first, with all their flags."""
     table = candidate_table(searches)
-    # lines of wide boxes have a greater ratio than their true S/N; the pass without zero DM begins at a delay of 0
-    lowest = min([one.dm_low for one in hunt.searches if one.zero_dm] or [one.dm_low for one in hunt.searches])
-    table = table[(table["snr"] >= hunt.snr) & (table["dm"] >= lowest)]
+    # lines of wide boxes have a greater ratio than their true S/N; searches begin below the least dispersion measure
+    is_low = table["dm"] + DM_ERRORS * table["dm_error"] < hunt.dm_low
+    table = table[(table["snr"] >= hunt.snr) & ~is_low]
     table["flag"] = with_flag(table["flag"], are_narrow(folder, hunt, table), "narrow")
     return table
 

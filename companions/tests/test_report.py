@@ -6,6 +6,7 @@ import json
 import re
 import shutil
 import subprocess
+from dataclasses import replace
 from pathlib import Path
 
 import numpy as np
@@ -107,6 +108,17 @@ def test_files_of_candidates(folder: str, table: Array) -> None:
     day, fraction = first["mjd_infinite"].split(".")
     assert day == "60311" and len(fraction) == 12
     assert float("0." + fraction) == pytest.approx(float(table["mjd_infinite"][0]) % 1, abs=1e-10)
+
+
+def test_candidates_below_the_least_dm(folder: str, table: Array, tmp_path: Path) -> None:
+    """They are left out, whatever the searches begin at."""
+    shutil.copytree(folder, tmp_path / "a")
+    place = str(tmp_path / "a")
+    write_manifest(place, replace(read_manifest(place), dm_low=60))
+    kept = write_candidates(place)
+    assert (table["dm"] < 2).any() and (kept["dm"] > 2).all()
+    assert {burst.dm for burst in BURSTS if burst.dm > 60} == {
+        burst.dm for burst in BURSTS if (np.abs(kept["dm"] - burst.dm) < 5).any()}
 
 
 def test_the_schema(folder: str, table: Array) -> None:
