@@ -127,8 +127,8 @@ fn is_file(alloc: Global, name: &str, body: &[u8], file: &str) -> Result<bool, F
     Ok(name == whole_name && has_data(alloc, body, data)?)
 }
 
-// Whether exactly these files were made, in this order.
-fn has_files(alloc: Global, made: &MemFiles, files: &str) -> Result<bool, Fail> {
+/// Whether exactly these files were made, in this order.
+pub(crate) fn has_files(alloc: Global, made: &MemFiles, files: &str) -> Result<bool, Fail> {
     if files.is_empty() {
         return Ok(made.count() == 0);
     }

@@ -1,5 +1,8 @@
 // Whole searches and recordings.
-use crate::cases::check_all;
+ghost use Rattle.std.specs.Prelude.{IfOk, IsTrue};
+ghost use Rattle.psr_base.specs.InMemory.{IsMaking};
+
+use crate::cases::{check_all, has_files};
 use crate::files::{bytes_of, inputs_for};
 use crate::recordings::RECORDINGS;
 use crate::running::Program::{Record, Search};
@@ -10,7 +13,8 @@ use detect_rule::Rule;
 use meeting_gate::{Meeting, TurnCount};
 use psr_base::{CalmFiles, CalmInputs, CalmSink, MemFiles, MemInputs, MemSink};
 use psr_make::run_make;
-use psr_search::run;
+use psr_record::run_record;
+use psr_search::{run, run_in_memory};
 use search_session::NoGate;
 use std::alloc::Global;
 use std::sync::Wait;
@@ -168,6 +172,66 @@ fn recorded_files_give_the_same_text(rt: HostRuntime) -> Result<(), Fail> {
         let text = text_of_recorded(&rt, rt.alloc(), recording, searching, &mut inputs)?;
         assert!(rt; text.as_str() == wanted, "{recording}: {text}");
     }
+    Ok(())
+}
+
+// Runs a program that may record into files of which none is open. Answers whether it ended with 0, in which case none
+// is open then either.
+fn record_more<R: Threads + Wait + Clock + Sync>(
+    rt: &R,
+    alloc: Global,
+    program: Program,
+    options: &str,
+    names: &str,
+    inputs: &mut MemInputs,
+    made: &mut MemFiles,
+) -> Result<bool, Fail>
+    requires closed { ¬ IsMaking made.old }
+    ensures closed { IfOk result (λ whole. IsTrue whole → ¬ IsMaking made.new) }
+{
+    let words = words_of(alloc, options, names)?;
+    let mut out = MemSink::open(alloc, ENOUGH.out_room, &[])?;
+    let mut notes = MemSink::open(alloc, ENOUGH.note_room, &[])?;
+    let words = words.as_slice();
+    match program {
+        Search => {
+            let ran = run_in_memory(
+                rt, alloc, words, inputs, made, &mut out, &mut notes, &NoGate,
+            );
+            Ok(ran.status == 0)
+        }
+        Record => {
+            let ran = run_record(rt, alloc, words, inputs, made, &mut notes, &NoGate);
+            Ok(ran.status == 0)
+        }
+    }
+}
+
+#[test]
+fn files_are_recorded_one_after_another(rt: HostRuntime) -> Result<(), Fail> {
+    let alloc = rt.alloc();
+    let mut inputs = inputs_for(alloc, "pulse next", NEVER)?;
+    let mut made = MemFiles::open(alloc, ENOUGH.files, ENOUGH.file_room, &[])?;
+    let small = "--file-size 4 --max-bytes 1000";
+    if !record_more(&rt, alloc, Record, small, "pulse", &mut inputs, &mut made)? {
+        return Err("the first recording".into());
+    }
+    let searching = "--mean 1 --sd 2 --snr 7 --max-delay 1 --widths 1 --record";
+    if !record_more(
+        &rt,
+        alloc,
+        Search,
+        searching,
+        "next",
+        &mut inputs,
+        &mut made,
+    )? {
+        return Err("the recording of a search".into());
+    }
+    // The names are there already.
+    let again = record_more(&rt, alloc, Record, small, "pulse", &mut inputs, &mut made)?;
+    let files = "first 10 0 0 20, second 0 0, next 0 0";
+    assert!(rt; !again && has_files(alloc, &made, files)?);
     Ok(())
 }
 

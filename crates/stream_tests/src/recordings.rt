@@ -26,6 +26,7 @@ abcdefgh | cut | cut 2 | first abcd, second ef
 abcdef + gh | cut | cut 3 | first abcd, second ef, third
 abcdef | max_bytes 5 | too_long 5 | first abc
 abcdef | max_bytes 0 | too_long 0 | first
+abcdef | max_bytes 5, call 3 | file_fault | first abc
 abcdef + untimed gh | | no_time | first abcd, second ef
 abcdef | max_bytes 4000001 | too_many_files
 abcdef | call 0 | file_fault
