@@ -13,8 +13,9 @@ sys.path[:0] = [str(HERE), str(HERE.parent)]
 
 import made  # noqa: E402
 
-# a shell ignores SIGINT for jobs in the background, and so would the programs that tests stop by it
+# a shell ignores SIGINT for jobs in the background, and nohup ignores SIGHUP; so would the programs that tests stop
 signal.signal(signal.SIGINT, signal.default_int_handler)
+signal.signal(signal.SIGHUP, signal.SIG_DFL)
 
 
 @pytest.fixture(scope="session")
