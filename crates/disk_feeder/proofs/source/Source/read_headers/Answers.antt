@@ -112,7 +112,7 @@ loop-transfer-preserved g c =
           one_more (first_name old) file_of t told told' (i.told c.read_first.new.inputs) (first_name now t)
           (before.read file_of (λ k below. are k (omega arith)))
           (name_same old now t before.kept)
-          (c.in-Ok.ensures.read (file_of t)
+          (c.in-Ok.ensures.read.known (file_of t)
           (told_still old now told told' t t (file_of t) before.kept before.names refl (are t (omega arith))));
       is_open = λ some. c.in-Ok.ensures.is_open;
       names = c.read_first.ensures.inputs.names ∙ before.names;
@@ -180,7 +180,7 @@ returns-in-Err-clause-broke g c = λ failed.
           breaks_next (first_name old) file_of t told told' (i.told c.read_first.new.inputs) (first_name now t)
           (before.read file_of (λ k below. are k (omega arith)))
           (name_same old now t before.kept)
-          (c.in-Err.ensures.broke failed (file_of t)
+          ((c.in-Err.ensures.broke failed).known (file_of t)
           (told_still old now told told' t t (file_of t) before.kept before.names refl (are t (omega arith))));
       missing = λ calm some.
           (c.in-Err.ensures.serves (before.calm calm) failed).untold
