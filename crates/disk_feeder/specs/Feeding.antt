@@ -137,8 +137,8 @@ pub record IsCutAt (s : FileStream) (at : Place) (size : ℕ) (blocks : List Ent
   pub stream : blocks ≡ abandoned_stream size s.max_bytes (take at.transfer (walk_data s))
       (take at.since (transfer_data s at.transfer))
 
--- What was sealed there whether or not the file at the place is told: the full blocks of data that were read, all within
--- the limit, with a Cut. These data begin with those of the files before any file up to the place, where they are told.
+-- What was sealed there, whether or not the file at the place is told: the full blocks of the data that were read, all
+-- within the limit, with a Cut. These data begin with those of the files before the place, as far as these are told.
 pub record IsCutPast (plan : Plan) (told : Told) (at : Place) (size : ℕ) (blocks : List Entry) :
     Type 0 where
   pub inside : IsAtFile plan at
@@ -173,11 +173,11 @@ IsFeeding s told headers blocks = FeedsTo s told headers blocks s.end
 -- It came at this place, and no file before stops the walk. Where the files that were opened are told, nothing that was
 -- read stops it, and the full blocks of the transfer are those of the data bytes that were read of it, and no other.
 -- Where the file at the place and the first one of each transfer are told too, it was not opened, or its header isn't
--- judged by what was read; or its header goes on, and it was read up to the place. Whether or not it is told: where all
--- files before some file up to the place are told, the data that were read, of which the full blocks are, begin with
--- theirs; and where the first one of each transfer is told too, these files were read to their ends before anything else.
--- Calm inputs could not open the file: where those before it are told, and the first one of each transfer, they were read
--- to their ends, and nothing else was.
+-- judged by what was read; or its header goes on, and it was read up to the place. Whether or not that file is told,
+-- the data that were read begin with those of the files before it, as far as these are told; and where the first one of
+-- each transfer is told too, these files were read to their ends before anything else. Calm inputs could not open the
+-- file: where those before it are told, and the first one of each transfer, they were read to their ends, and nothing
+-- else was.
 pub record BreaksReading (plan : Plan) (before : Told) (is_calm : Type 0) (after : Told)
     (at : Place) (size : ℕ) (blocks : List Entry) : Type 0 where
   pub passed : NoStopBefore plan after at.file

@@ -99,8 +99,8 @@ abbrev pub read_first : Bool → Told → List Reading
 read_first false told = history told
 read_first true told = told.earlier
 
--- up to a file, whether or not it is told: where all files before some file k up to there are told, and the first one of
--- each transfer, these were read to their ends, in order, before anything else
+-- up to a file, whether or not it is told: where the files before some file k up to there are told, and the first one
+-- of each transfer, they were read to their ends, in order, before anything else
 abbrev pub ReadsThrough : Plan → Told → Told → ℕ → List Reading → Type 0
 ReadsThrough plan before told file readings = (k : ℕ) → k ≤ file → (files : List (List ℕ)) →
     AreToldWithFirsts k told plan files →

@@ -45,8 +45,9 @@ pub record PassesWith (s : FileStream) (transfer k : ℕ) (before : List (List �
   pub is : before
       ≡ take transfer (walk_data s) ++ (data_between s.files (begin_of s transfer) k ++ more) ∷ later
 
--- Whether or not the file at the place is told: where all files before some file k up to there are told, the data that
--- were read begin with theirs. File k is one of the transfer, or of an earlier one.
+-- Whether or not the file at a place is told, the data that were read begin with those of the files before it, as far
+-- as these are told: in the transfer of the place, and in each earlier one, with those of its files before file k,
+-- where all files before file k are told
 pub record DataBegin (plan : Plan) (told : Told) (at : Place) (before : List (List ℕ))
     (current : List ℕ) : Type 0 where
   pub here : (k : ℕ) → begin_at plan.starts (length plan.names) at.transfer ≤ k → k ≤ at.file →
