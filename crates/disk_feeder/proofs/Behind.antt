@@ -152,7 +152,7 @@ module _ (plan : Plan) (told : Told) (at : Place) (before : List (List ℕ)) (cu
 
 -- ---- the history
 
-prefix_is : (xs ys : List Reading) → xs ≡ ys → IsPrefix xs ys
+pub prefix_is : (xs ys : List Reading) → xs ≡ ys → IsPrefix xs ys
 prefix_is xs ys same = ([], append-nil xs ∙ same)
 
 prefix_to : (xs ys zs : List Reading) → ys ≡ zs → IsPrefix xs ys → IsPrefix xs zs
@@ -163,6 +163,13 @@ prefix_all : (xs : List Reading) (told : Told) → IsPrefix xs told.earlier → 
 prefix_all xs told p =
     let last = option_to_list told.reading in
     (p.0 ++ last, sym (append_assoc xs p.0 last) ∙ ap (λ (ys : List Reading). ys ++ last) p.1)
+
+-- and where it was of the history before one name was opened
+pub prefix_past : (xs : List Reading) (told told' : Told) → OpensAtMostOne told told' → IsPrefix xs (history told) →
+    IsPrefix xs (history told')
+prefix_past xs told told' (inl same) p = prefix_to xs (history told) (history told') (ap history (sym same)) p
+prefix_past xs told told' (inr later) p =
+    prefix_all xs told' (prefix_to xs (history told) told'.earlier (sym later) p)
 
 module _ (plan : Plan) (before told told' : Told) (at : Place) (names : told'.bytes_under ≡ told.bytes_under)
     (was : ReadsThrough plan before told at.file (read_first at.is_open told)) where
@@ -223,13 +230,9 @@ module _ (plan : Plan) (before told told' : Told) (at : Place) (names : told'.by
   -- a fault came as it was opened
   pub through_unopened : at.is_open ≡ false → OpensAtMostOne told told' →
       ReadsThrough plan before told' at.file (history told')
-  through_unopened shut (inl same) =
+  through_unopened shut one =
       through_map (history told') (λ xs p.
-      prefix_to xs (read_first at.is_open told) (history told') (first_is false shut ∙ ap history (sym same)) p)
-  through_unopened shut (inr later) =
-      through_map (history told') (λ xs p.
-      prefix_all xs told'
-      (prefix_to xs (read_first at.is_open told) told'.earlier (first_is false shut ∙ sym later) p))
+      prefix_past xs told told' one (prefix_to xs (read_first at.is_open told) (history told) (first_is false shut) p))
 
 -- at the first file, nothing of which was read before
 pub through_start : (plan : Plan) (before told : Told) (at : Place) → at.file ≡ 0 →
