@@ -30,4 +30,4 @@ accepted_is_searched is_calm goes_on words seen o s files says are searched calm
     (goes_on Searching words seen.inputs seen.ran.blocks seen.ran.status o.judged o.read o.stopped s files says are
     searched.begins searched.whole calm)
     (λ e. let many = (o.too_many e s files says are).total in let few = searched.total in omega (arith, few, many))
-    (λ e. out_quiet (o.written.failed e)) (λ e. files_quiet (o.recorded.failed e))
+    (λ e. out_quiet (o.written.failed e)) (λ e. files_quiet (o.recorded.rose (o.recorded.failed e)))
