@@ -82,7 +82,11 @@ pub(crate) fn run_over<R: Wait>(
 ) -> Result<Ended, Fail> {
     let mut out = MemSink::open(alloc, limits.out_room, &[limits.out])?;
     let mut notes = MemSink::open(alloc, limits.note_room, &[limits.note])?;
-    let Ran { status, blocks } = run_mask_in_memory(rt, alloc, words, inputs, &mut out, &mut notes);
+    let Ran {
+        status,
+        blocks,
+        recorded: _,
+    } = run_mask_in_memory(rt, alloc, words, inputs, &mut out, &mut notes);
     Ok(Ended {
         status,
         text: text_of(alloc, &out)?,

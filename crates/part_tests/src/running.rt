@@ -58,7 +58,11 @@ pub(crate) fn run_words<R: Wait>(
 ) -> Result<Ended, Fail> {
     let mut out = MemSink::open(alloc, limits.out_room, &[limits.out])?;
     let mut notes = MemSink::open(alloc, 1000, &[limits.note])?;
-    let Ran { status, blocks } = run_part_in_memory(rt, alloc, words, inputs, &mut out, &mut notes);
+    let Ran {
+        status,
+        blocks,
+        recorded: _,
+    } = run_part_in_memory(rt, alloc, words, inputs, &mut out, &mut notes);
     Ok(Ended {
         status,
         text: Vec::from_slice(alloc, out.body())?,

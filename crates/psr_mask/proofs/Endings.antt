@@ -469,8 +469,9 @@ pub outcome : (words : List (List ℕ)) (inputs : InputsSeen) (is_calm : Type 0)
     (blocks : Option Finished) (status : ℕ) → Ends words inputs is_calm out_before out_after stop blocks →
     status ≡ end_status stop → TellsMask words inputs.told notes_before notes_after status →
     Outcome words inputs is_calm out_before out_after notes_before notes_after
-    (record { status = status; blocks = blocks })
+    (record { status = status; blocks = blocks; recorded = None })
 outcome words inputs is_calm out_before out_after notes_before notes_after stop blocks status e is noted = record {
   answered = subst (λ n. Answered words inputs is_calm out_before out_after blocks n) (sym is) e.answered;
+  unrecorded = refl;
   noted = noted;
 }

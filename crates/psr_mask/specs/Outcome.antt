@@ -89,6 +89,8 @@ pub record Answered (words : List (List ℕ)) (inputs : InputsSeen) (is_calm : T
 pub record Outcome (words : List (List ℕ)) (inputs : InputsSeen) (is_calm : Type 0)
     (out_before out_after notes_before notes_after : SinkSeen) (ran : Ran) : Type 0 where
   pub answered : Answered words inputs is_calm out_before out_after ran.blocks ran.status
+  -- there is no recorder
+  pub unrecorded : ran.recorded ≡ None
   pub noted : TellsMask words inputs.told notes_before notes_after ran.status
 
 -- ---- the other way round, from what is accepted or refused to the status

@@ -74,7 +74,11 @@ pub fn run_mask<R: Wait, I: Inputs, K: Sink, E: Sink>(
 {
     let Ended { stop, blocks } = search(rt, alloc, words, inputs, out);
     let status = tell_mask(stop, notes);
-    Ran { status, blocks }
+    Ran {
+        status,
+        blocks,
+        recorded: None,
+    }
 }
 
 // Searches as `run_mask` does, without the notes.

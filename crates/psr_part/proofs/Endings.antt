@@ -384,7 +384,7 @@ pub outcome : (words : List (List ℕ)) (inputs : InputsSeen) (is_calm : Type 0)
     ((from : Checkpoint) → IsPartSaid words from inputs.told blocks stop →
     TellsPart words from inputs.told blocks notes_before notes_after status) →
     Outcome words inputs is_calm out_before out_after notes_before notes_after
-    (record { status = status; blocks = blocks })
+    (record { status = status; blocks = blocks; recorded = None })
 outcome words inputs is_calm out_before out_after notes_before notes_after stop blocks status e is noted =
     record {
       from = e.from;
@@ -395,5 +395,6 @@ outcome words inputs is_calm out_before out_after notes_before notes_after stop 
       run = subst (λ n. RunsAlone 13 (part_search words e.from) words inputs
           (is_calm × HoldsAll inputs.told (check_names words)) blocks n) (sym is) e.run;
       too_many = λ nine. e.too_many (sym is ∙ nine);
+      unrecorded = refl;
       noted = noted e.from e.said;
     }

@@ -112,6 +112,8 @@ pub record Outcome (words : List (List ℕ)) (inputs : InputsSeen) (is_calm : Ty
       (is_calm × HoldsAll inputs.told (check_names words)) ran.blocks ran.status
   -- 9 exactly where the part has more pulses than there may be
   pub too_many : ran.status ≡ 9 → ForPart words from inputs.told (IsCrowded words from)
+  -- there is no recorder
+  pub unrecorded : ran.recorded ≡ None
   pub noted : TellsPart words from inputs.told ran.blocks notes_before notes_after ran.status
 
 -- ---- what was read at want of memory and at a refusal, and what a fault of the inputs leaves

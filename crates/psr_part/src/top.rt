@@ -54,7 +54,11 @@ pub fn run_part<R: Wait, I: Inputs, K: Sink, E: Sink>(
 {
     let Ended { stop, blocks } = search(rt, alloc, words, inputs, out);
     let status = tell_part(stop, notes);
-    Ran { status, blocks }
+    Ran {
+        status,
+        blocks,
+        recorded: None,
+    }
 }
 
 // The stop of a search that was driven: none of its own, since no observation is refused.

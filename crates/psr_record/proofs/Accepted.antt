@@ -24,4 +24,4 @@ accepted_is_recorded is_calm goes_on words inputs files_before files_after notes
     left ran.status o.known
     (goes_on RecordingAlone words inputs ran.blocks ran.status o.judged o.read o.stopped s files says are
     recordable.begins recordable.whole calm)
-    (λ e. files_quiet (o.recorded.failed e))
+    (λ e. files_quiet (o.recorded.rose (o.recorded.failed e)))

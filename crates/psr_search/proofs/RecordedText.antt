@@ -270,7 +270,7 @@ both_are_recorded is_calm law inputs files_before files_after out_before out_aft
 
     files_at : ran.status ≡ 0 → MadeAll made_files files_before files_after
     files_at e = subst (λ (made : List NamedBytes). MadeAll made files_before files_after) made_of_files
-        (outcome.recorded.all e recording_settings files say_recording told it_records)
+        (outcome.recorded.all e recording_settings files say_recording told it_records).1
 
     by_status : (ran.status ≡ 0) ⊎ (ran.status ≡ 5) →
         ((ran.status ≡ 0) × IsFoundAndMade files_before files_after out_before out_after) ⊎ (ran.status ≡ 5)

@@ -14,7 +14,8 @@ use std::sync::Wait;
 use std::thread::Threads;
 use std::time::Clock;
 
-/// Searches files in memory, as `run` does. The inputs are calm if none of their calls is to fail.
+/// Searches files in memory, as `run` does. The inputs are calm if none of their calls is to fail. `recorded` of the
+/// answer says how the recorder ended, also if the status names another cause.
 pub fn run_in_memory<G: Gate + Sync, R: Threads + Wait + Clock + Sync>(
     rt: &R,
     alloc: Global,
@@ -40,7 +41,7 @@ pub fn run_in_memory<G: Gate + Sync, R: Threads + Wait + Clock + Sync>(
     ensures broken { result.status ≡ 6 → LeavesAtFault Searching (map string_bytes words.now)
         ((calls_of inputs.old).fail ≡ []) (told_of inputs.old) (told_of inputs.new) result.blocks }
     ensures left { LeavesFiles Searching (map string_bytes words.now) IsMaking files_seen files.old
-        files.new result.blocks result.status }
+        files.new result.blocks result.recorded result.status }
 {
     run(rt, alloc, words, inputs, files, out, notes, gate)
 }

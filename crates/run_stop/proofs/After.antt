@@ -1,6 +1,7 @@
 -- What the exit status says after a session.
-use Rattle.std.proofs.Common.{◌≡◌, ◌≢◌, ◌⊎◌, ℕ, zero, suc, ◌+◌, ◌<◌, List, [], ◌∷◌, refl, inl, inr, sym, ap, ◌∙◌, subst, Some, None, true, false, Contains, lit<, arith}
-use Rattle.std.specs.Prelude.{Option, Bool, length}
+use Rattle.std.proofs.Common.{◌≡◌, ◌≢◌, ◌⊎◌, ℕ, zero, suc, ◌+◌, ◌<◌, List, [], ◌∷◌, refl, inl, inr, sym, ap, ◌∙◌, subst, Some, None, Contains, lit<, arith}
+use Rattle.std.proofs.lemmas.List.Elements.{Contains-append_left}
+use Rattle.std.specs.Prelude.{Option, IsSome, length}
 use Rattle.psr_base.specs.Told.{Told}
 use Rattle.psr_base.specs.Made.{NamedBytes, FilesSeen}
 use Rattle.ring_blocks.specs.declared.Entry.{Entry}
@@ -21,9 +22,9 @@ use Rattle.run_stop.specs.declared.stop.Stop.TheVariants.{Header, Gap, TooLong}
 use Rattle.run_stop.specs.Texts.{status_of}
 use Rattle.run_stop.specs.Conversions.{stop_of_feed}
 use Rattle.run_stop.specs.Runs.{Task, SettingsFor, Says, ForFiles, ForFirsts, ForFilesTo, CanBegin, IsWalkStop, StopNames, StopTells, StopsThere, StopsAt, PassesTo, SaysOfFiles, stop_of_walk, stream_for}
-use Rattle.run_stop.specs.Outcomes.{StopsAtFiles, BreaksStream, SealsStream, RecordsFiles, MadeAll, MadeFront, files_of_stream, files_of_data}
+use Rattle.run_stop.specs.Outcomes.{StopsAtFiles, BreaksStream, SealsStream, RecordsFiles, MadeAll, MadeFront, MadeBy, CanEndAt, files_of_stream, files_of_data}
 use Rattle.run_stop.specs.Laws.{WholeRunsRecordData}
-use Rattle.run_stop.specs.Ends.{IsRunFed, IsRecorded, IsLate, EndsAt}
+use Rattle.run_stop.specs.Ends.{IsRunFed, EndsAsFed, IsRecorded, IsLate, EndsAt}
 use Rattle.run_stop.proofs.Before.{none_stopped}
 use Rattle.run_stop.proofs.Needs.{told_at}
 
@@ -60,59 +61,93 @@ whole_walk limit (walk.BadFields file fault) is = absurd cc
 whole_walk limit (walk.Gap file expected found) is = absurd cc
 whole_walk limit (walk.TooLong file) is = absurd cc
 
+-- ---- the statuses
+
+not_cut : (n : ℕ) → Contains (3 ∷ 6 ∷ 7 ∷ 8 ∷ []) n → n ≢ 0
+not_cut n (zero, below, is) e = omega (arith, is, e)
+not_cut n (suc zero, below, is) e = omega (arith, is, e)
+not_cut n (suc (suc zero), below, is) e = omega (arith, is, e)
+not_cut n (suc (suc (suc zero)), below, is) e = omega (arith, is, e)
+not_cut n (suc (suc (suc (suc k))), below, is) e = omega (arith, below)
+
+not_failed : (n : ℕ) → Contains (3 ∷ 6 ∷ 7 ∷ 8 ∷ 9 ∷ 10 ∷ 11 ∷ []) n → n ≢ 0
+not_failed n (zero, below, is) e = omega (arith, is, e)
+not_failed n (suc zero, below, is) e = omega (arith, is, e)
+not_failed n (suc (suc zero), below, is) e = omega (arith, is, e)
+not_failed n (suc (suc (suc zero)), below, is) e = omega (arith, is, e)
+not_failed n (suc (suc (suc (suc zero))), below, is) e = omega (arith, is, e)
+not_failed n (suc (suc (suc (suc (suc zero)))), below, is) e = omega (arith, is, e)
+not_failed n (suc (suc (suc (suc (suc (suc zero))))), below, is) e = omega (arith, is, e)
+not_failed n (suc (suc (suc (suc (suc (suc (suc k)))))), below, is) e = omega (arith, below)
+
+not_last : (n : ℕ) → Contains (0 ∷ 9 ∷ 10 ∷ 11 ∷ []) n → n ≢ 11 → Contains (0 ∷ 9 ∷ 10 ∷ []) n
+not_last n (zero, below, is) other = (0, lit< tt, is)
+not_last n (suc zero, below, is) other = (1, lit< tt, is)
+not_last n (suc (suc zero), below, is) other = (2, lit< tt, is)
+not_last n (suc (suc (suc zero)), below, is) other = absurd (other (sym is))
+not_last n (suc (suc (suc (suc k))), below, is) other = absurd (omega (arith, below))
+
+not_first : (n : ℕ) → Contains (0 ∷ 9 ∷ 10 ∷ 11 ∷ []) n → n ≢ 0 →
+    Contains (3 ∷ 6 ∷ 7 ∷ 8 ∷ 9 ∷ 10 ∷ 11 ∷ []) n
+not_first n (zero, below, is) other = absurd (other (sym is))
+not_first n (suc zero, below, is) other = (4, lit< tt, is)
+not_first n (suc (suc zero), below, is) other = (5, lit< tt, is)
+not_first n (suc (suc (suc zero)), below, is) other = (6, lit< tt, is)
+not_first n (suc (suc (suc (suc k))), below, is) other = absurd (omega (arith, below))
+
 -- ---- the files
 
 module _ (task : Task) (words : List (List ℕ)) (told : Told) (blocks : Finished)
     (answer : Option RecordEnd) (before after : FilesSeen) where
-  -- whether a call failed
-  did_fail : (a : Option RecordEnd) → (a ≡ Some recorder.FileFault) ⊎ (a ≢ Some recorder.FileFault)
-  did_fail None = inr (λ e. cc)
-  did_fail (Some (recorder.Whole files)) = inr (λ e. cc)
-  did_fail (Some (recorder.Cut files)) = inr (λ e. cc)
-  did_fail (Some recorder.FileFault) = inl refl
-  did_fail (Some (recorder.BadHeader fault)) = inr (λ e. cc)
-  did_fail (Some (recorder.TooLong limit)) = inr (λ e. cc)
+  -- a run whose recorder ended has one
+  there_is : (a : Option RecordEnd) → IsSome a → (end : RecordEnd) × (a ≡ Some end)
+  there_is None some = absurd cc
+  there_is (Some end) some = (end, refl)
 
-  took : IsRecorded task words told blocks answer before after →
-      (answer ≡ Some recorder.FileFault) ⊎ (answer ≢ Some recorder.FileFault) →
-      ForFirsts task words told (λ s w. s.recording ≡ true →
-      MadeAll (files_of_stream w s.file_size (sealed_at_end blocks)) before after
-      ⊎ MadeFront (files_of_stream w s.file_size (sealed_at_end blocks)) before after)
-  took r (inl failed) s files says are on = inr (r.front failed s files says are on)
-  took r (inr none) s files says are on = inl (r.all none s files says are on)
+  -- at 0 it ended with all data
+  all_made : (end : RecordEnd) (files : List NamedBytes) (n : ℕ) → n ≡ 0 → CanEndAt end n → MadeBy end files before after →
+      (end ≡ recorder.Whole (length files)) × MadeAll files before after
+  all_made (recorder.Whole count) files n zeroth can made = (ap (λ k. recorder.Whole k) made.0, made.1)
+  all_made (recorder.Cut count) files n zeroth can made = absurd (not_cut n can zeroth)
+  all_made recorder.FileFault files n zeroth can made = absurd (not_failed n can zeroth)
+  all_made (recorder.BadHeader fault) files n zeroth can made = absurd can
+  all_made (recorder.TooLong limit) files n zeroth can made = absurd can
 
-  -- a run that records did so where a call failed
-  records : IsRecorded task words told blocks answer before after → answer ≡ Some recorder.FileFault →
-      (s : SettingsFor task) → Says task words s → (on : Bool) → s.recording ≡ on → s.recording ≡ true
-  records r failed s says true is = is
-  records r failed s says false is = absurd ((r.unrecorded s says is).1 failed)
-
-  -- where more than a feeder's stop is to say: the files of all data are those of the stream
-  recorded_at : (n : ℕ) → IsRecorded task words told blocks answer before after →
-      (n ≡ 0 → answer ≢ Some recorder.FileFault) → (n ≡ 11 → answer ≡ Some recorder.FileFault) →
+  -- the files of all data are those of the stream, where more than a feeder's stop is to say
+  recorded_at : (end : FeedEnd) (n : ℕ) → IsRecorded task words told blocks end answer before after →
+      ((e : RecordEnd) → answer ≡ Some e → CanEndAt e n) → (n ≡ 11 → answer ≡ Some recorder.FileFault) →
       ((n ≡ 0) ⊎ (n ≡ 11) → ForFiles task words told (λ s w.
       files_of_stream w s.file_size (sealed_at_end blocks) ≡ files_of_data w s.file_size)) →
-      RecordsFiles task words told (Some blocks) before after n
-  recorded_at n r all failed same = record {
+      RecordsFiles task words told (Some blocks) answer before after n
+  recorded_at end n r can failed same = record {
     before_session = λ e. absurd cc;
     unrecorded = λ s says off.
-        let two = r.unrecorded s says off in (two.0, λ e. two.1 (failed e));
-    all = λ e s files says are on. subst
-        (λ (made : List NamedBytes). MadeAll made before after) (same (inl e) s files says are)
-        (r.all (all e) s files says (told_at told s.names files are) on);
+        let two = r.unrecorded s says off in (two.0, λ e. no_end (sym two.1 ∙ failed e), two.1);
+    ended = λ some. r.ended;
+    shown = can;
+    all = λ zeroth s files says are on.
+        let it = there_is answer (r.ended s says on) in
+        let Made : List NamedBytes → Type 0 = λ made. MadeBy it.0 made before after in
+        let w = stream_for s files in
+        let whole = all_made it.0 (files_of_data w s.file_size) n zeroth (can it.0 it.1)
+        (subst Made (same (inl zeroth) s files says are)
+        (r.made it.0 it.1 s files says (told_at told s.names files are))) in
+        (it.1 ∙ ap (λ e. Some e) whole.0, whole.1);
     front = λ e s files says are. subst
         (λ (made : List NamedBytes). MadeFront made before after) (same (inr e) s files says are)
-        (r.front (failed e) s files says (told_at told s.names files are)
-        (records r (failed e) s says s.recording refl));
-    stream = λ b e. subst
-        (λ (x : Finished). ForFirsts task words told (λ s w. s.recording ≡ true →
-        MadeAll (files_of_stream w s.file_size (sealed_at_end x)) before after
-        ⊎ MadeFront (files_of_stream w s.file_size (sealed_at_end x)) before after))
-        (one_list blocks b e) (took r (did_fail answer));
-    failed = λ e. r.rose (failed e);
-    quiet = λ e. r.quiet (all e);
+        (r.made recorder.FileFault (failed e) s files says (told_at told s.names files are));
+    stream = λ b e it is. subst
+        (λ (x : Finished). ForFirsts task words told (λ s w.
+        MadeBy it (files_of_stream w s.file_size (sealed_at_end x)) before after))
+        (one_list blocks b e) (r.made it is);
+    failed = failed;
+    rose = r.rose;
+    quiet = r.quiet;
     count = r.count;
   }
+    where
+      no_end : None ≡ Some recorder.FileFault → ⊥
+      no_end e = cc
 
   -- a status of a run whose data were all sealed is none of those between
   pub apart : (n m : ℕ) → Contains (0 ∷ 9 ∷ 10 ∷ 11 ∷ []) n → 0 < m → m < 9 → n ≢ m
@@ -166,13 +201,24 @@ module _ (task : Task) (words : List (List ℕ)) (told : Told) (blocks : Finishe
     });
   }
 
-  -- at a status of a feeder's stop nothing is said of all data
-  recorded_stopped : (n : ℕ) → n ≢ 0 → n ≢ 11 →
-      IsRecorded task words told blocks answer before after →
-      RecordsFiles task words told (Some blocks) before after n
-  recorded_stopped n zeroth last r = recorded_at n r (λ e. absurd (zeroth e))
+  -- a feeder's stop ends a recorder before all data, and nothing is said of these
+  recorded_stopped : (end : FeedEnd) (stop : Stop) (n : ℕ) → stop_of_feed end ≡ Some stop →
+      Contains (3 ∷ 6 ∷ 7 ∷ 8 ∷ []) n → n ≢ 0 → n ≢ 11 →
+      IsRecorded task words told blocks end answer before after →
+      RecordsFiles task words told (Some blocks) answer before after n
+  recorded_stopped end stop n is known zeroth last r = recorded_at end n r (λ e at. can e (r.as_fed e at))
       (λ e. absurd (last e)) (λ e. absurd (neither e))
     where
+      no_stop : None ≡ Some stop → ⊥
+      no_stop e = cc
+
+      can : (e : RecordEnd) → EndsAsFed end e → CanEndAt e n
+      can (recorder.Whole count) whole = absurd (no_stop (sym (ap stop_of_feed whole.1) ∙ is))
+      can (recorder.Cut count) cut = known
+      can recorder.FileFault any = Contains-append_left (3 ∷ 6 ∷ 7 ∷ 8 ∷ []) (9 ∷ 10 ∷ 11 ∷ []) n known
+      can (recorder.BadHeader fault) never = absurd never
+      can (recorder.TooLong limit) never = absurd never
+
       neither : (n ≡ 0) ⊎ (n ≡ 11) → ⊥
       neither (inl e) = zeroth e
       neither (inr e) = last e
@@ -274,58 +320,62 @@ module _ (task : Task) (words : List (List ℕ)) (told : Told) (blocks : Finishe
   }
 
   pub ends_stopped : (end : FeedEnd) (stop : Stop) → IsRunFed task words told blocks end →
-      IsRecorded task words told blocks answer before after → stop_of_feed end ≡ Some stop →
-      EndsAt task words told (Some blocks) before after (status_of stop)
+      IsRecorded task words told blocks end answer before after → stop_of_feed end ≡ Some stop →
+      EndsAt task words told (Some blocks) answer before after (status_of stop)
       × SaysOfFiles task words told stop
   ends_stopped (feed.Whole bytes) stop f r is = absurd cc
   ends_stopped feed.ReadFault stop f r is =
-      subst (λ (x : Stop). EndsAt task words told (Some blocks) before after (status_of x)
+      subst (λ (x : Stop). EndsAt task words told (Some blocks) answer before after (status_of x)
       × SaysOfFiles task words told x) (one_stop _ stop is) (
         record {
           stopped = none_stopped task words told (Some blocks) 6 (λ e. omega (arith, e))
               (λ e. omega (arith, e)) (λ e. omega (arith, e)) (λ e. omega (arith, e));
           sealed = sealed_broken f;
-          recorded = recorded_stopped 6 (λ e. omega (arith, e)) (λ e. omega (arith, e)) r;
+          recorded = recorded_stopped feed.ReadFault stop 6 is (1, lit< tt, refl)
+              (λ e. omega (arith, e)) (λ e. omega (arith, e)) r;
         },
         tt,
       )
   ends_stopped (feed.BadHeader file cause) stop f r is =
       let so = stops (feed.BadHeader file cause) (Header file cause) f (λ bytes e. cc) f.walked f.stops refl in
-      subst (λ (x : Stop). EndsAt task words told (Some blocks) before after (status_of x)
+      subst (λ (x : Stop). EndsAt task words told (Some blocks) answer before after (status_of x)
       × SaysOfFiles task words told x) (one_stop _ stop is) (
         record {
           stopped = header_stopped file cause f.at.file so;
           sealed = sealed_at 3 (1, lit< tt, refl) (feed.BadHeader file cause) f
               (λ e. omega (arith, e)) (λ late. absurd (apart 3 3 late (lit< tt) (lit< tt) refl))
               (all_told f.at.file (feed.BadHeader file cause) f.walked);
-          recorded = recorded_stopped 3 (λ e. omega (arith, e)) (λ e. omega (arith, e)) r;
+          recorded = recorded_stopped (feed.BadHeader file cause) stop 3 is (0, lit< tt, refl)
+              (λ e. omega (arith, e)) (λ e. omega (arith, e)) r;
         },
         inr (stops_at (Header file cause) f.at.file f.names (λ s says. tt) so),
       )
   ends_stopped (feed.Gap file expected found) stop f r is =
       let so = stops (feed.Gap file expected found) (Gap file expected found) f (λ bytes e. cc) f.walked f.stops refl
       in
-      subst (λ (x : Stop). EndsAt task words told (Some blocks) before after (status_of x)
+      subst (λ (x : Stop). EndsAt task words told (Some blocks) answer before after (status_of x)
       × SaysOfFiles task words told x) (one_stop _ stop is) (
         record {
           stopped = gap_stopped file expected found f.at.file so;
           sealed = sealed_at 7 (3, lit< tt, refl) (feed.Gap file expected found) f
               (λ e. omega (arith, e)) (λ late. absurd (apart 7 7 late (lit< tt) (lit< tt) refl))
               (all_told f.at.file (feed.Gap file expected found) f.walked);
-          recorded = recorded_stopped 7 (λ e. omega (arith, e)) (λ e. omega (arith, e)) r;
+          recorded = recorded_stopped (feed.Gap file expected found) stop 7 is (2, lit< tt, refl)
+              (λ e. omega (arith, e)) (λ e. omega (arith, e)) r;
         },
         stops_at (Gap file expected found) f.at.file f.names (λ s says. tt) so,
       )
   ends_stopped (feed.TooLong limit) stop f r is =
       let so = stops (feed.TooLong limit) (TooLong limit) f (λ bytes e. cc) f.walked f.stops refl in
-      subst (λ (x : Stop). EndsAt task words told (Some blocks) before after (status_of x)
+      subst (λ (x : Stop). EndsAt task words told (Some blocks) answer before after (status_of x)
       × SaysOfFiles task words told x) (one_stop _ stop is) (
         record {
           stopped = long_stopped limit f.at.file (f.limit limit refl) so;
           sealed = sealed_at 8 (4, lit< tt, refl) (feed.TooLong limit) f (λ e. omega (arith, e))
               (λ late. absurd (apart 8 8 late (lit< tt) (lit< tt) refl))
               (all_told f.at.file (feed.TooLong limit) f.walked);
-          recorded = recorded_stopped 8 (λ e. omega (arith, e)) (λ e. omega (arith, e)) r;
+          recorded = recorded_stopped (feed.TooLong limit) stop 8 is (3, lit< tt, refl)
+              (λ e. omega (arith, e)) (λ e. omega (arith, e)) r;
         },
         stops_at (TooLong limit) f.at.file tt (f.limit limit refl) so,
       )
@@ -340,10 +390,23 @@ module _ (task : Task) (words : List (List ℕ)) (told : Told) (blocks : Finishe
   late_known n (suc (suc (suc zero)), below, is) = (7, lit< tt, is)
   late_known n (suc (suc (suc (suc k))), below, is) = absurd (omega (arith, below))
 
+  -- where all data were sealed, a recorder ended with them
+  can_late : (bytes n : ℕ) → IsLate answer n → (e : RecordEnd) → answer ≡ Some e → EndsAsFed (feed.Whole bytes) e →
+      CanEndAt e n
+  can_late bytes n late (recorder.Whole count) at whole =
+      not_last n late.known (λ last. no_fault (sym at ∙ late.failed last))
+    where
+      no_fault : Some (recorder.Whole count) ≡ Some recorder.FileFault → ⊥
+      no_fault e = cc
+  can_late bytes n late (recorder.Cut count) at cut = absurd (cut bytes refl)
+  can_late bytes n late recorder.FileFault at any = not_first n late.known (λ zeroth. late.all zeroth at)
+  can_late bytes n late (recorder.BadHeader fault) at never = absurd never
+  can_late bytes n late (recorder.TooLong limit) at never = absurd never
+
   pub ends_whole : WholeRunsRecordData → (end : FeedEnd) (n : ℕ) → IsRunFed task words told blocks end →
-      IsRecorded task words told blocks answer before after → stop_of_feed end ≡ None →
+      IsRecorded task words told blocks end answer before after → stop_of_feed end ≡ None →
       IsLate answer n →
-      EndsAt task words told (Some blocks) before after n
+      EndsAt task words told (Some blocks) answer before after n
       × ForFiles task words told (λ s w. CanBegin task s w × (walk_stop w ≡ walk.Whole))
   ends_whole law (feed.Whole bytes) n f r is late =
       let walked = all_told f.at.file (feed.Whole bytes) f.walked in
@@ -358,7 +421,8 @@ module _ (task : Task) (words : List (List ℕ)) (told : Told) (blocks : Finishe
           sealed = sealed_at n (late_known n late.known) (feed.Whole bytes) f
               (apart n 6 late.known (lit< tt) (lit< tt))
               (λ known s says. subst (λ k. PassesTo k task words told) (f.last bytes refl s says) f.passed) walked;
-          recorded = recorded_at n r late.all late.failed (λ e s files says are.
+          recorded = recorded_at (feed.Whole bytes) n r (λ e at. can_late bytes n late e at (r.as_fed e at)) late.failed
+              (λ e s files says are.
               let w = stream_for s files in
               ap (files_of_stream w s.file_size) (walked s files says are).stream
               ∙ law s.size s.file_size w (whole s files says are));

@@ -42,21 +42,24 @@ module _ (task : Task) (words : List (List ℕ)) (told : Told) where
 
   -- nothing was recorded
   none_recorded : (n : ℕ) → n ≢ 0 → n ≢ 11 → (seen : FilesSeen) →
-      RecordsFiles task words told None seen seen n
+      RecordsFiles task words told None None seen seen n
   none_recorded n zeroth last seen = record {
-    before_session = λ e. refl;
-    unrecorded = λ s says off. (refl, last);
+    before_session = λ e. (refl, refl);
+    unrecorded = λ s says off. (refl, last, refl);
+    ended = λ some. absurd cc;
+    shown = λ end e. absurd cc;
     all = λ e. absurd (zeroth e);
     front = λ e. absurd (last e);
     stream = λ b e. absurd cc;
     failed = λ e. absurd (last e);
+    rose = λ e. absurd cc;
     quiet = λ e. refl;
     count = omega arith;
   }
 
   ends_early : (n : ℕ) → Contains early n → n ≢ 0 → n ≢ 11 →
       StopsAtFiles task words told None n →
-      (seen : FilesSeen) → EndsAt task words told None seen seen n
+      (seen : FilesSeen) → EndsAt task words told None None seen seen n
   ends_early n known zeroth last stopped seen = record {
     stopped = stopped;
     sealed = none_sealed n known;
@@ -96,12 +99,12 @@ module _ (task : Task) (words : List (List ℕ)) (told : Told) where
 
   -- a status that says nothing of the files
   pub ends_plainly : (n : ℕ) → Contains early n → n ≢ 3 → n ≢ 4 → n ≢ 7 → n ≢ 8 → n ≢ 0 → n ≢ 11 →
-      (seen : FilesSeen) → EndsAt task words told None seen seen n
+      (seen : FilesSeen) → EndsAt task words told None None seen seen n
   ends_plainly n known three four seven eight zeroth last =
       ends_early n known zeroth last (none_stopped None n three four seven eight)
 
   pub at_status : (stop : Stop) → StopsBefore task words told stop → (seen : FilesSeen) →
-      EndsAt task words told None seen seen (status_of stop)
+      EndsAt task words told None None seen seen (status_of stop)
   at_status Words b = absurd b.kind
   at_status (Value opt) b = absurd b.kind
   at_status (Header file cause) b =

@@ -210,7 +210,7 @@ unsaid_alone lone words (inr (inr (t, said, made))) s says =
 
 pub at_words : (is_calm : Type 0) → EndAtWords is_calm
 at_words is_calm task words inputs seen fault stop why is still =
-    subst (λ (x : Stop). EndsShort task words inputs is_calm None seen seen x) (sym is) (by_fault fault why)
+    subst (λ (x : Stop). EndsShort task words inputs is_calm None None seen seen x) (sym is) (by_fault fault why)
   where
     unsaid : (t : Task) (f : WordFault) → Explains t words f → status_of (stop_of_words f) ≡ 2 →
         (s : SettingsFor t) → ¬ Says t words s
@@ -225,7 +225,7 @@ at_words is_calm task words inputs seen fault stop why is still =
     unsaid t words_fault.Memory out two s says = omega (arith, two)
 
     refused : (f : WordFault) → Explains task words f → status_of (stop_of_words f) ≡ 2 →
-        EndsRun task words inputs is_calm None seen seen 2
+        EndsRun task words inputs is_calm None None seen seen 2
     refused f out two = record {
       judged = judges is_calm task words (unsaid task f out two);
       read = still_read is_calm task words inputs still 2 (λ e. omega (arith, e));
@@ -234,7 +234,7 @@ at_words is_calm task words inputs seen fault stop why is still =
     }
 
     by_fault : (f : WordFault) → Explains task words f →
-        EndsShort task words inputs is_calm None seen seen (stop_of_words f)
+        EndsShort task words inputs is_calm None None seen seen (stop_of_words f)
     by_fault Refused out = record {
       known = (0, lit< tt, refl);
       least = omega arith;
@@ -276,7 +276,7 @@ before_session is_calm task words s inputs before after stop says b stands read 
         judged = were_said is_calm task words inputs s says (status_of stop) (λ e. omega (arith, e, least));
         read = was_read is_calm task words inputs s says (stop ≡ ReadFault) (status_of stop) read (six_is stop)
             (λ e. ap status_of e);
-        ends = subst (λ (seen : FilesSeen). EndsAt task words inputs.told None before seen (status_of stop))
+        ends = subst (λ (seen : FilesSeen). EndsAt task words inputs.told None None before seen (status_of stop))
             (sym stands) (at_status task words inputs.told stop b before);
       };
       said = (silent task words stop b.kind, says_of task words inputs.told stop b);

@@ -32,7 +32,7 @@ use Rattle.run_stop.specs.Firsts.{RefusesFirstText, RefusesFirstFields}
 use Rattle.search_words.specs.declared.fault.WordFault.{WordFault}
 use Rattle.run_stop.specs.Conversions.{stop_of_words, stop_of_feed}
 use Rattle.run_stop.specs.Runs.{Task, SettingsFor, is_search, IfSearch, Says, ForFiles, ForFirsts, ForFilesTo, BeginsByFirsts, PassesTo, stream_for, CanSearchFirst, CanRecordFirst, CanBegin, RefusesFirstHeader, RefusesSearch, RefusesToRecord, RefusesFirsts, RefusesSearches, RefusesRecordings, IsWalkStop, SaysOfFiles, IsStopOfWords, Explains}
-use Rattle.run_stop.specs.Outcomes.{JudgesWords, ReadsInputs, LeavesAtFault, StopsAtFiles, SealsStream, RecordsFiles, MadeAll, MadeFront, files_of_stream}
+use Rattle.run_stop.specs.Outcomes.{JudgesWords, ReadsInputs, LeavesAtFault, StopsAtFiles, SealsStream, RecordsFiles, MadeBy, files_of_stream}
 
 -- the status of a run that came to a stop, or to none
 abbrev pub end_status : Option Stop → ℕ
@@ -53,18 +53,19 @@ IsSaid task words told (Some stop) =
 -- what the exit status says of the files and of the data ring
 pub record EndsAt
     (task : Task) (words : List (List ℕ)) (told : Told) (blocks : Option Finished)
-    (before after : FilesSeen) (status : ℕ) : Type 0 where
+    (answer : Option RecordEnd) (before after : FilesSeen) (status : ℕ) : Type 0 where
   pub stopped : StopsAtFiles task words told blocks status
   pub sealed : SealsStream task words told blocks status
-  pub recorded : RecordsFiles task words told blocks before after status
+  pub recorded : RecordsFiles task words told blocks answer before after status
 
 -- and of the words and the inputs
 pub record EndsRun
     (task : Task) (words : List (List ℕ)) (inputs : InputsSeen) (is_calm : Type 0)
-    (blocks : Option Finished) (before after : FilesSeen) (status : ℕ) : Type 0 where
+    (blocks : Option Finished) (answer : Option RecordEnd) (before after : FilesSeen)
+    (status : ℕ) : Type 0 where
   pub judged : JudgesWords task words status
   pub read : ReadsInputs task words inputs is_calm status
-  pub ends : EndsAt task words inputs.told blocks before after status
+  pub ends : EndsAt task words inputs.told blocks answer before after status
 
 -- the statuses of a run that ends before all data were sealed
 abbrev pub short_statuses : List ℕ
@@ -73,11 +74,12 @@ short_statuses = 2 ∷ 3 ∷ 4 ∷ 5 ∷ 6 ∷ 7 ∷ 8 ∷ []
 -- it ends so: at its words, before its session, or where its feeder was stopped
 pub record EndsShort
     (task : Task) (words : List (List ℕ)) (inputs : InputsSeen) (is_calm : Type 0)
-    (blocks : Option Finished) (before after : FilesSeen) (stop : Stop) : Type 0 where
+    (blocks : Option Finished) (answer : Option RecordEnd) (before after : FilesSeen)
+    (stop : Stop) : Type 0 where
   pub known : Contains short_statuses (status_of stop)
   pub least : 2 ≤ status_of stop
   pub most : status_of stop ≤ 8
-  pub run : EndsRun task words inputs is_calm blocks before after (status_of stop)
+  pub run : EndsRun task words inputs is_calm blocks answer before after (status_of stop)
   pub said : IsSaid task words inputs.told (Some stop)
 
 -- reading failed exactly where the count of faults rose, and not over calm inputs that hold all of these files
@@ -97,7 +99,7 @@ EndAtWords is_calm = (task : Task) (words : List (List ℕ)) (inputs : InputsSee
     (seen : FilesSeen) (fault : WordFault) (stop : Stop) →
     Explains task words fault → stop ≡ stop_of_words fault →
     inputs.faults_after ≡ inputs.faults_before →
-    EndsShort task words inputs is_calm None seen seen stop
+    EndsShort task words inputs is_calm None None seen seen stop
 
 -- the same words never say two different settings
 abbrev pub WordsSayOnce : Type 0
@@ -136,9 +138,17 @@ EndBeforeSession is_calm = (task : Task) (words : List (List ℕ)) (s : Settings
     (inputs : InputsSeen) (before after : FilesSeen) (stop : Stop) → Says task words s →
     StopsBefore task words inputs.told stop → after ≡ before →
     CountsFaults inputs is_calm s.names (stop ≡ ReadFault) →
-    EndsShort task words inputs is_calm None before after stop
+    EndsShort task words inputs is_calm None None before after stop
 
 -- ---- after it
+
+-- a recorder ended with all data where its feeder sealed them, or was cut as that was; or a call failed
+abbrev pub EndsAsFed : FeedEnd → RecordEnd → Type 0
+EndsAsFed feed (recorder.Whole count) = (bytes : ℕ) × (feed ≡ feeder.Whole bytes)
+EndsAsFed feed (recorder.Cut count) = (bytes : ℕ) → feed ≢ feeder.Whole bytes
+EndsAsFed feed recorder.FileFault = ⊤
+EndsAsFed feed (recorder.BadHeader fault) = ⊥
+EndsAsFed feed (recorder.TooLong limit) = ⊥
 
 -- A session went through: nothing stood against it, and its feeder ended so at some place. Where it sealed all data
 -- that is past all files; else the file of the place is there, and the only one that the end names.
@@ -161,16 +171,14 @@ pub record IsRunFed
 
 -- and recorded what went through, or a front of it where a call failed; or was to record nothing
 pub record IsRecorded
-    (task : Task) (words : List (List ℕ)) (told : Told) (blocks : Finished)
+    (task : Task) (words : List (List ℕ)) (told : Told) (blocks : Finished) (feed : FeedEnd)
     (answer : Option RecordEnd) (before after : FilesSeen) : Type 0 where
   pub unrecorded : (s : SettingsFor task) → Says task words s → s.recording ≡ false →
-      (after ≡ before) × (answer ≢ Some recorder.FileFault)
-  pub all : answer ≢ Some recorder.FileFault →
-      ForFirsts task words told (λ s w. s.recording ≡ true →
-      MadeAll (files_of_stream w s.file_size (sealed_at_end blocks)) before after)
-  pub front : answer ≡ Some recorder.FileFault →
-      ForFirsts task words told (λ s w. s.recording ≡ true →
-      MadeFront (files_of_stream w s.file_size (sealed_at_end blocks)) before after)
+      (after ≡ before) × (answer ≡ None)
+  pub ended : (s : SettingsFor task) → Says task words s → s.recording ≡ true → IsSome answer
+  pub as_fed : (end : RecordEnd) → answer ≡ Some end → EndsAsFed feed end
+  pub made : (end : RecordEnd) → answer ≡ Some end → ForFirsts task words told (λ s w.
+      MadeBy end (files_of_stream w s.file_size (sealed_at_end blocks)) before after)
   pub rose : answer ≡ Some recorder.FileFault → Rose before.faults after.faults
   pub quiet : answer ≢ Some recorder.FileFault → after.faults ≡ before.faults
   pub count : before.faults ≤ after.faults
@@ -182,7 +190,7 @@ pub record RunsThrough
     (before after : FilesSeen) : Type 0 where
   pub says : Says task words s
   pub fed : IsRunFed task words inputs.told blocks feed
-  pub recorded : IsRecorded task words inputs.told blocks answer before after
+  pub recorded : IsRecorded task words inputs.told blocks feed answer before after
   pub read : CountsFaults inputs is_calm s.names (feed ≡ feeder.ReadFault)
 
 -- the feeder was stopped
@@ -192,7 +200,7 @@ EndAtStop is_calm = (task : Task) (words : List (List ℕ)) (s : SettingsFor tas
     (before after : FilesSeen) (stop : Stop) →
     RunsThrough task words s inputs is_calm blocks feed answer before after →
     stop_of_feed feed ≡ Some stop →
-    EndsShort task words inputs is_calm (Some blocks) before after stop
+    EndsShort task words inputs is_calm (Some blocks) answer before after stop
 
 -- the status of a run whose data were all sealed: 0 only where no call on the files failed, and 11 only where one did
 pub record IsLate (answer : Option RecordEnd) (status : ℕ) : Type 0 where
@@ -206,7 +214,7 @@ EndAfterWhole is_calm = (task : Task) (words : List (List ℕ)) (s : SettingsFor
     (before after : FilesSeen) (status : ℕ) →
     RunsThrough task words s inputs is_calm blocks feed answer before after →
     stop_of_feed feed ≡ None → IsLate answer status →
-    EndsRun task words inputs is_calm (Some blocks) before after status
+    EndsRun task words inputs is_calm (Some blocks) answer before after status
     × ForFiles task words inputs.told (λ s w. CanBegin task s w × (walk_stop w ≡ walk.Whole))
 
 -- ---- where nothing stands against it

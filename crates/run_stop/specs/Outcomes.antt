@@ -12,6 +12,8 @@ use Rattle.ring_ends.specs.Ended.{sealed_at_end, cleared_at_end}
 use Rattle.stream_model.specs.Blocks.{ended_transfers, transfer_bytes}
 use Rattle.stream_model.specs.Walk.{FileStream, transfer_data, walk_stream}
 use Rattle.stream_model.specs.RecordedLaws.{RecordedTransfer, recorded_of_transfers}
+use Rattle.dada_recorder.specs.declared.answers.RecordEnd.{RecordEnd}
+use Rattle.dada_recorder.specs.declared.answers.RecordEnd.TheVariants as recorder
 use Rattle.dada_recorder.specs.Making.{Outset, BeginsAt, HasMade, BreaksOff}
 use Rattle.disk_feeder.specs.declared.place.Place.{Place}
 use Rattle.disk_feeder.specs.Feeding.{IsBroken, IsCutAt}
@@ -178,37 +180,64 @@ pub record MadeFront (files : List NamedBytes) (before after : FilesSeen) : Type
   pub rose : Rose before.faults after.faults
   pub count : before.faults ≤ after.faults
 
--- A run that records: at 0 the files of all data are made, and at 11, which comes only where a call failed, a front of
--- those. Where the walk stops, and where the output has no text, they are those of the stream that went through, or a
--- front of them, by the first files alone. Before the session, and where nothing is recorded, the files stand.
+-- what the end of a recorder says of these files: all of them were made, so many, or a call failed
+abbrev pub MadeBy : RecordEnd → List NamedBytes → FilesSeen → FilesSeen → Type 0
+MadeBy (recorder.Whole count) files before after =
+    (count ≡ length files) × MadeAll files before after
+MadeBy (recorder.Cut count) files before after =
+    (count ≡ length files) × MadeAll files before after
+MadeBy recorder.FileFault files before after = MadeFront files before after
+MadeBy (recorder.BadHeader fault) files before after = ⊥
+MadeBy (recorder.TooLong limit) files before after = ⊥
+
+-- The statuses at which a recorder can have ended so: with all data if these were all sealed, cut if the stream was given
+-- up, and with a fault at each of these but 0; 11 says that fault itself.
+abbrev pub CanEndAt : RecordEnd → ℕ → Type 0
+CanEndAt (recorder.Whole count) status = Contains (0 ∷ 9 ∷ 10 ∷ []) status
+CanEndAt (recorder.Cut count) status = Contains (3 ∷ 6 ∷ 7 ∷ 8 ∷ []) status
+CanEndAt recorder.FileFault status = Contains (3 ∷ 6 ∷ 7 ∷ 8 ∷ 9 ∷ 10 ∷ 11 ∷ []) status
+CanEndAt (recorder.BadHeader fault) status = ⊥
+CanEndAt (recorder.TooLong limit) status = ⊥
+
+-- How the recorder of a run ended, and what it made. Before the session, and where nothing is recorded, there is none, and
+-- the files stand; else there is one, at each status. At 0 it made the files of all data, and at 11, which comes only if
+-- it ended with a fault, a front of those. By the first files alone, it made those of the stream that went through, or a
+-- front of them if it ended with a fault. The count of faults rose exactly then.
 pub record RecordsFiles
     (task : Task) (words : List (List ℕ)) (told : Told) (blocks : Option Finished)
-    (before after : FilesSeen) (status : ℕ) : Type 0 where
-  pub before_session : blocks ≡ None → after ≡ before
+    (recorded : Option RecordEnd) (before after : FilesSeen) (status : ℕ) : Type 0 where
+  pub before_session : blocks ≡ None → (after ≡ before) × (recorded ≡ None)
   pub unrecorded : (s : SettingsFor task) → Says task words s → s.recording ≡ false →
-      (after ≡ before) × (status ≢ 11)
-  pub all : status ≡ 0 → ForFiles task words told (λ s w.
-      s.recording ≡ true → MadeAll (files_of_data w s.file_size) before after)
+      (after ≡ before) × (status ≢ 11) × (recorded ≡ None)
+  pub ended : IsSome blocks → (s : SettingsFor task) → Says task words s → s.recording ≡ true →
+      IsSome recorded
+  pub shown : (end : RecordEnd) → recorded ≡ Some end → CanEndAt end status
+  pub all : status ≡ 0 → ForFiles task words told (λ s w. s.recording ≡ true →
+      (recorded ≡ Some (recorder.Whole (length (files_of_data w s.file_size))))
+      × MadeAll (files_of_data w s.file_size) before after)
   pub front : status ≡ 11 → ForFiles task words told (λ s w.
       MadeFront (files_of_data w s.file_size) before after)
-  pub stream : (b : Finished) → blocks ≡ Some b → ForFirsts task words told (λ s w.
-      s.recording ≡ true → let files = files_of_stream w s.file_size (sealed_at_end b) in
-      MadeAll files before after ⊎ MadeFront files before after)
-  pub failed : status ≡ 11 → Rose before.faults after.faults
-  pub quiet : status ≡ 0 → after.faults ≡ before.faults
+  pub stream : (b : Finished) → blocks ≡ Some b → (end : RecordEnd) → recorded ≡ Some end →
+      ForFirsts task words told (λ s w.
+      MadeBy end (files_of_stream w s.file_size (sealed_at_end b)) before after)
+  pub failed : status ≡ 11 → recorded ≡ Some recorder.FileFault
+  pub rose : recorded ≡ Some recorder.FileFault → Rose before.faults after.faults
+  pub quiet : recorded ≢ Some recorder.FileFault → after.faults ≡ before.faults
   pub count : before.faults ≤ after.faults
 
 -- What a run leaves of the files that it was lent. Before the session, and where nothing is recorded, they stand. If no
--- file was open before, none is open at 0, nor at any other status if no call on the files failed. In this: whether a
--- file is open, and what files show.
+-- file was open before, none is open at 0, nor at any other status if no call on the files failed; nor is one unless the
+-- recorder ended with a fault. In this: whether a file is open, and what files show.
 pub record LeavesFiles {F : Type 0}
     (task : Task) (words : List (List ℕ)) (files_open : F → Type 0) (seen : F → FilesSeen)
-    (before after : F) (blocks : Option Finished) (status : ℕ) : Type 0 where
+    (before after : F) (blocks : Option Finished) (recorded : Option RecordEnd) (status : ℕ)
+    : Type 0 where
   pub before_session : blocks ≡ None → after ≡ before
   pub unrecorded : (s : SettingsFor task) → Says task words s → s.recording ≡ false →
       after ≡ before
   pub closed : (status ≡ 0) ⊎ ¬ Rose (seen before).faults (seen after).faults →
       ¬ files_open before → ¬ files_open after
+  pub shut : recorded ≢ Some recorder.FileFault → ¬ files_open before → ¬ files_open after
 
 -- ---- the notes
 

@@ -1,5 +1,5 @@
 -- What a run comes to, for all words that say its settings.
-use Rattle.std.proofs.Common.{◌≡◌, ℕ, ◌+◌, ◌<◌, ◌≤◌, true, inr, List, Option, Some, None, length, sym, ap, ◌∙◌, subst, arith}
+use Rattle.std.proofs.Common.{◌≡◌, ℕ, ◌+◌, ◌<◌, ◌≤◌, inr, List, Option, Some, None, length, sym, ap, ◌∙◌, subst, arith}
 use Rattle.std.specs.Prelude.{IsSome}
 use Rattle.psr_base.specs.Told.{Told}
 use Rattle.search_words.specs.Settings.{SettingsOf}
@@ -21,7 +21,7 @@ use Rattle.run_stop.specs.declared.stop.Stop.{Stop}
 use Rattle.run_stop.specs.declared.stop.Stop.TheVariants.{Words, Value, Header, Plan as Refused, Recording, Memory, ReadFault, Gap, TooLong, TooMany, SinkFault, FileFault}
 use Rattle.run_stop.specs.Ends.{WordsSayOnce, SaysBefore, IsRunFed}
 use Rattle.run_stop.specs.Firsts.{ReadsFirsts, RefusesTextAt, RefusesFieldsAt, BreaksFirstAt, RefusesFirstFields}
-use Rattle.run_stop.specs.Outcomes.{LeavesAtFault, MadeAll, MadeFront, files_of_stream}
+use Rattle.run_stop.specs.Outcomes.{LeavesAtFault, MadeBy, files_of_stream}
 use Rattle.run_stop.specs.Runs.{Task, SettingsFor, IfSearch, Says, ForFilesAt, JudgesFirsts, PassesTo, MayBegin, CanBegin, RefusesSearch, RefusesSearchAt, RefusesToRecord, RefusesRecordingAt, stream_for}
 use Rattle.search_opening.specs.Early.{SaysEarly}
 use Rattle.search_opening.specs.Ended.{EarlyStopsAreSaid, EarlyStopsLeave, HasReadSince, SessionsFeedFiles, RecordingsAreSaid}
@@ -248,21 +248,18 @@ sessions_feed once told is_calm faults feeder end fed task s before plan read =
 -- ---- what is recorded
 
 pub recordings_said : WordsSayOnce → RecordingsAreSaid
-recordings_said once task s old new blocks answer before after same by words says =
+recordings_said once task s old new blocks feed answer before after same by words says =
     let sealed = sealed_at_end blocks in
     record {
       unrecorded = λ t says' not.
           by.unrecorded (ap (λ (u : SettingsFor task). u.recording) (once task words s t says says') ∙ not);
-      all = λ fine. for_files once task (λ t. firsts t) words s old (λ t w. t.recording ≡ true →
-          MadeAll (files_of_stream w t.file_size sealed) before after) says
-          (before_reading (firsts s) s old new (λ w. s.recording ≡ true →
-          MadeAll (files_of_stream w s.file_size sealed) before after) same
-          (λ files are records. by.all fine records files are));
-      front = λ failed. for_files once task (λ t. firsts t) words s old (λ t w. t.recording ≡ true →
-          MadeFront (files_of_stream w t.file_size sealed) before after) says
-          (before_reading (firsts s) s old new (λ w. s.recording ≡ true →
-          MadeFront (files_of_stream w s.file_size sealed) before after) same
-          (λ files are records. by.front failed records files are));
+      ended = λ t says' is.
+          by.ended (ap (λ (u : SettingsFor task). u.recording) (once task words s t says says') ∙ is);
+      as_fed = by.as_fed;
+      made = λ end is. for_files once task (λ t. firsts t) words s old
+          (λ t w. MadeBy end (files_of_stream w t.file_size sealed) before after) says
+          (before_reading (firsts s) s old new
+          (λ w. MadeBy end (files_of_stream w s.file_size sealed) before after) same (by.made end is));
       rose = by.rose;
       quiet = by.quiet;
       count = by.count;

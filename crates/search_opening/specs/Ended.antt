@@ -1,7 +1,7 @@
 -- What a run came to that was opened, or that stopped before: for all words that say its settings, and over the files
 -- as they were told before any of them was read. Laws of it; functions of this crate carry them.
 -- Source: this project's choice.
-use Rattle.std.specs.Prelude.{◌≡◌, ◌≢◌, ℕ, ◌<◌, ◌≤◌, true, false, List, length, Option, Some, None}
+use Rattle.std.specs.Prelude.{◌≡◌, ◌≢◌, ℕ, ◌<◌, ◌≤◌, true, false, List, length, Option, Some, None, IsSome}
 use Rattle.psr_base.specs.Count.{Rose}
 use Rattle.psr_base.specs.Made.{FilesSeen}
 use Rattle.psr_base.specs.Told.{Told}
@@ -23,8 +23,8 @@ use Rattle.search_session.specs.Sessions.{FeedAnswers}
 use Rattle.run_stop.specs.declared.stop.Stop.{Stop}
 use Rattle.run_stop.specs.declared.stop.Stop.TheVariants.{Memory, ReadFault as FailedRead}
 use Rattle.run_stop.specs.Runs.{Task, SettingsFor}
-use Rattle.run_stop.specs.Ends.{StopsBefore, IsRunFed, IsRecorded}
-use Rattle.run_stop.specs.Outcomes.{ReadsNoData, LeavesAtFault, MadeAll, MadeFront, files_of_stream}
+use Rattle.run_stop.specs.Ends.{StopsBefore, IsRunFed, EndsAsFed, IsRecorded}
+use Rattle.run_stop.specs.Outcomes.{ReadsNoData, LeavesAtFault, MadeBy, files_of_stream}
 use Rattle.search_opening.specs.Early.{StopsEarly, LeavesEarly}
 use Rattle.search_opening.specs.Settings.{ForWords, OfRun, OfRunFirsts, BeginsRun}
 
@@ -101,14 +101,14 @@ SessionsFeedFiles {I} F told is_calm faults = (feeder : Feeder I) (end : Session
 -- ---- by its recorder
 
 -- What was recorded of what went through, over the settings: all of it, or a front where a call failed; or nothing was
--- to be recorded. The recorder ended with this answer, if there was one.
+-- to be recorded. The feeder ended so, and the recorder with this answer, if there was one.
 pub record RecordsRun {S : Type 0} (s : SettingsOf S) (told : Told) (blocks : Finished)
-    (answer : Option RecordEnd) (before after : FilesSeen) : Type 0 where
-  pub unrecorded : s.recording ≡ false → (after ≡ before) × (answer ≢ Some FileFault)
-  pub all : answer ≢ Some FileFault → s.recording ≡ true → OfRunFirsts told s (λ w.
-      MadeAll (files_of_stream w s.file_size (sealed_at_end blocks)) before after)
-  pub front : answer ≡ Some FileFault → s.recording ≡ true → OfRunFirsts told s (λ w.
-      MadeFront (files_of_stream w s.file_size (sealed_at_end blocks)) before after)
+    (feed : FeedEnd) (answer : Option RecordEnd) (before after : FilesSeen) : Type 0 where
+  pub unrecorded : s.recording ≡ false → (after ≡ before) × (answer ≡ None)
+  pub ended : s.recording ≡ true → IsSome answer
+  pub as_fed : (end : RecordEnd) → answer ≡ Some end → EndsAsFed feed end
+  pub made : (end : RecordEnd) → answer ≡ Some end → OfRunFirsts told s (λ w.
+      MadeBy end (files_of_stream w s.file_size (sealed_at_end blocks)) before after)
   pub rose : answer ≡ Some FileFault → Rose before.faults after.faults
   pub quiet : answer ≢ Some FileFault → after.faults ≡ before.faults
   pub count : before.faults ≤ after.faults
@@ -116,6 +116,6 @@ pub record RecordsRun {S : Type 0} (s : SettingsOf S) (told : Told) (blocks : Fi
 -- so its words say, over the files as they were told before
 abbrev pub RecordingsAreSaid : Type 0
 RecordingsAreSaid = (task : Task) (s : SettingsFor task) (old new : Told) (blocks : Finished)
-    (answer : Option RecordEnd) (before after : FilesSeen) → new.bytes_under ≡ old.bytes_under →
-    RecordsRun s new blocks answer before after →
-    ForWords task s (λ words. IsRecorded task words old blocks answer before after)
+    (feed : FeedEnd) (answer : Option RecordEnd) (before after : FilesSeen) →
+    new.bytes_under ≡ old.bytes_under → RecordsRun s new blocks feed answer before after →
+    ForWords task s (λ words. IsRecorded task words old blocks feed answer before after)

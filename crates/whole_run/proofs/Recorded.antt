@@ -1,11 +1,12 @@
 -- What a session records, over the files of a run.
-use Rattle.std.proofs.Common.{◌≡◌, ◌≢◌, ℕ, ◌<◌, true, false, List, Option, Some, Ok, length, refl, sym, ap, ◌∙◌, subst, arith}
+use Rattle.std.proofs.Common.{◌≡◌, ◌≢◌, ℕ, ◌<◌, ◌≤◌, true, List, Option, Some, Ok, length, refl, sym, ap, ◌∙◌, arith}
 use Rattle.std.specs.Prelude.{slice_get, slice_index_or}
 use Rattle.std.specs.Option.{option_map}
 use Rattle.std.proofs.lemmas.List.{length-map}
 use Rattle.std.proofs.lemmas.Option.{slice_get-map, slice_get_within, get_or_from_slice_get}
 use Rattle.dada_model.specs.Fields.{HeaderText, fields_of}
 use Rattle.dada_model.specs.Observation.{Observation, observation_of}
+use Rattle.psr_base.specs.Count.{Rose}
 use Rattle.psr_base.specs.Told.{Told}
 use Rattle.psr_base.specs.Made.{NamedBytes, FilesSeen}
 use Rattle.stream_model.specs.Walk.{FileStream}
@@ -16,11 +17,13 @@ use Rattle.disk_feeder.specs.Feeder.{headers_of, plan_at}
 use Rattle.dada_recorder.specs.declared.answers.RecordEnd.{RecordEnd}
 use Rattle.dada_recorder.specs.declared.answers.RecordEnd.TheVariants.{Whole, Cut, FileFault, BadHeader, TooLong}
 use Rattle.dada_recorder.specs.Changes.{recording}
-use Rattle.dada_recorder.specs.Making.{Outset, HasMade, BreaksOff}
+use Rattle.dada_recorder.specs.Making.{Outset, BeginsAt}
 use Rattle.search_session.specs.Recorded.{SealsRecordable, EndsRecording, HasRecorded}
 use Rattle.search_opening.specs.declared.space.StageSpace.{StageSpace}
 use Rattle.search_opening.specs.First.{AreFirsts, AreHeadersOf, AreObserved}
+use Rattle.run_stop.specs.Ends.{EndsAsFed}
 use Rattle.run_stop.specs.Laws.{RecordsFirsts}
+use Rattle.run_stop.specs.Outcomes.{MadeBy}
 use Rattle.run_stop.specs.Runs.{Task, SettingsFor, first_observation}
 use Rattle.search_opening.specs.Ready.{IsReady}
 use Rattle.search_opening.specs.Spaces.{plan_for}
@@ -86,19 +89,26 @@ records_firsts told is_open task s offsets feeder observations stage w ready rec
       (ready.offsets_are.each k (first_observation w k) (firsts.each k below));
 }
 
--- ---- what was made
+-- ---- how it ended, and what was made
 
-pub made_all : (feed : FeedEnd) (files : List NamedBytes) (outset : Outset) (seen : FilesSeen) (answer : RecordEnd) →
-    EndsRecording feed files answer → HasRecorded outset files seen answer → answer ≢ FileFault →
-    HasMade outset false files seen
-made_all feed files outset seen (Whole count) ends has fine = has
-made_all feed files outset seen (Cut count) ends has fine = has
-made_all feed files outset seen FileFault ends has fine = absurd (fine refl)
-made_all feed files outset seen (BadHeader fault) ends has fine = absurd ends
-made_all feed files outset seen (TooLong limit) ends has fine = absurd ends
+pub ends_as_fed : (feed : FeedEnd) (files : List NamedBytes) (answer : RecordEnd) → EndsRecording feed files answer →
+    EndsAsFed feed answer
+ends_as_fed feed files (Whole count) ends = ends.0
+ends_as_fed feed files (Cut count) ends = ends.0
+ends_as_fed feed files FileFault ends = tt
+ends_as_fed feed files (BadHeader fault) ends = absurd ends
+ends_as_fed feed files (TooLong limit) ends = absurd ends
 
-pub made_front : (files : List NamedBytes) (outset : Outset) (seen : FilesSeen) (answer : RecordEnd) →
-    HasRecorded outset files seen answer → answer ≡ FileFault → BreaksOff outset files seen
-made_front files outset seen answer has failed =
-    let By : RecordEnd → Type 0 = λ a. HasRecorded outset files seen a in
-    subst By failed has
+pub made_by : (feed : FeedEnd) (files : List NamedBytes) (before after : FilesSeen) (answer : RecordEnd) →
+    EndsRecording feed files answer →
+    ((outset : Outset) → BeginsAt outset before → HasRecorded outset files after answer) →
+    (answer ≡ FileFault → Rose before.faults after.faults) → (answer ≢ FileFault → after.faults ≡ before.faults) →
+    before.faults ≤ after.faults → MadeBy answer files before after
+made_by feed files before after (Whole count) ends has rose quiet more =
+    (ends.1, record { made = has; faults = quiet (λ e. cc) })
+made_by feed files before after (Cut count) ends has rose quiet more =
+    (ends.1, record { made = has; faults = quiet (λ e. cc) })
+made_by feed files before after FileFault ends has rose quiet more =
+    record { made = has; rose = rose refl; count = more }
+made_by feed files before after (BadHeader fault) ends has rose quiet more = absurd ends
+made_by feed files before after (TooLong limit) ends has rose quiet more = absurd ends

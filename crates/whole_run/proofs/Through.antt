@@ -1,16 +1,16 @@
 -- What a session left, over the files of a run.
-use Rattle.std.proofs.Common.{◌≡◌, ◌≢◌, ℕ, ◌+◌, ◌^◌, ◌<◌, ◌≤◌, true, false, List, Option, Some, None, length, map, refl, sym, ap, ◌∙◌, subst, arith}
+use Rattle.std.proofs.Common.{◌≡◌, ◌≢◌, ℕ, ◌+◌, ◌^◌, ◌<◌, ◌≤◌, true, List, Option, Some, None, length, map, refl, sym, ap, ◌∙◌, subst, arith}
 use Rattle.std.specs.List.{sum_by, range_with_len}
 use Rattle.std.proofs.lemmas.List.{length-map}
 use Rattle.arrayvec.specs.ArrayVec.{ArrayVec}
-use Rattle.psr_base.specs.Count.{Rose}
 use Rattle.candidate_book.specs.Book.{BookContents}
 use Rattle.std.proofs.lemmas.Bool.{true≢false}
 use Rattle.psr_base.specs.Told.{Told}
-use Rattle.psr_base.specs.Made.{FilesSeen}
+use Rattle.psr_base.specs.Made.{NamedBytes, FilesSeen}
 use Rattle.dada_model.specs.Observation.{Observation}
 use Rattle.search_model.specs.declared.search.Search.{Search}
 use Rattle.search_model.specs.Search.{SettingsInRange}
+use Rattle.search_words.specs.Settings.{SettingsOf}
 use Rattle.ring_ends.specs.declared.finished.Finished.{Finished}
 use Rattle.ring_ends.specs.Ended.{sealed_at_end, cleared_at_end}
 use Rattle.disk_feeder.specs.declared.answers.FeedEnd.{FeedEnd}
@@ -21,7 +21,6 @@ use Rattle.dada_recorder.specs.declared.answers.RecordEnd.{RecordEnd}
 use Rattle.dada_recorder.specs.declared.answers.RecordEnd.TheVariants.{FileFault}
 use Rattle.dada_recorder.specs.declared.recorder.Recorder.{Recorder}
 use Rattle.dada_recorder.specs.Blocks.{RecordPlan, files_of_blocks}
-use Rattle.dada_recorder.specs.Making.{HasMade, BreaksOff}
 use Rattle.dada_recorder.specs.Recorder.{plan_of}
 use Rattle.session_readers.specs.declared.bank.Bank.{Bank}
 use Rattle.search_session.specs.declared.ended.SessionEnd.{SessionEnd}
@@ -34,8 +33,8 @@ use Rattle.search_opening.specs.Plans.{PlansFit}
 use Rattle.search_opening.specs.declared.space.StageSpace.{StageSpace}
 use Rattle.search_opening.specs.Space.{banks_in}
 use Rattle.run_stop.specs.Laws.{RunsRecordBlocks}
-use Rattle.run_stop.specs.Ends.{IsRunFed}
-use Rattle.run_stop.specs.Outcomes.{AllCleared, files_of_stream}
+use Rattle.run_stop.specs.Ends.{IsRunFed, EndsAsFed}
+use Rattle.run_stop.specs.Outcomes.{AllCleared, MadeBy, files_of_stream}
 use Rattle.run_stop.specs.Runs.{Task, Searching, RecordingAlone, Alone, SearchFor, SettingsFor, IfSearch, stream_for}
 use Rattle.whole_run.specs.declared.found.Found.{Found}
 use Rattle.search_opening.specs.Ended.{FirstsStayTold, HasReadSince, HasFed, HasFedFiles, RecordsRun, RecordingsAreSaid}
@@ -45,7 +44,7 @@ use Rattle.search_opening.specs.Ready.{IsReady}
 use Rattle.whole_run.specs.Sessions.{RecordsReady, SearchesReady}
 use Rattle.search_opening.specs.Spaces.{AreBanksOf, plan_for}
 use Rattle.whole_run.specs.Ends.{IsFoundOf}
-use Rattle.whole_run.proofs.Recorded.{as_many, is_recordable, records_firsts, made_all, made_front}
+use Rattle.whole_run.proofs.Recorded.{as_many, is_recordable, records_firsts, ends_as_fed, made_by}
 use Rattle.whole_run.proofs.Lists.{some_at}
 use Rattle.whole_run.proofs.Searched.{said_at, transfers_through, banks_for, hold_transfers, transfers_are_counted, known_transfers}
 
@@ -112,59 +111,50 @@ same_files law told is_open task s offsets feeder observations stage r end ready
     (records_firsts told is_open task s offsets feeder observations stage w ready records refl (ready.firsts files are)
     (ready.headers files are))
 
-pub records_run : {I F : Type 0} → RunsRecordBlocks → (told : I → Told) (is_open : I → Type 0) (files_open : F → Type 0)
+-- what its recorder ended with, and made
+records_run : {I F : Type 0} → RunsRecordBlocks → (told : I → Told) (is_open : I → Type 0) (files_open : F → Type 0)
     (seen : F → FilesSeen) (task : Task) (s : SettingsFor task) (offsets : List ℕ) (feeder : Feeder I)
     (observations : List (Option Observation)) (stage : StageSpace I F) (r : Recorder F) (reader : ℕ)
-    (end : SessionEnd I F) (found : Found) (after : FilesSeen) →
+    (end : SessionEnd I F) →
     RecordsReady told is_open files_open task s offsets feeder observations stage r →
-    (by : RecordedBy files_open seen feeder r reader end) → after ≡ seen by.files.now →
-    found.recorded ≡ end.recorded → found.blocks ≡ end.blocks →
-    RecordsRun s (told feeder.inputs.now) found.blocks found.recorded (seen r.files.now) after
-records_run law told is_open files_open seen task s offsets feeder observations stage r reader end found after ready by
-    is answer blocks =
-    let ready' = ready.ready in
-    let plan = ready.fresh.plan_is in
-    let recordable : SealsRecordable (plan_of r) (plan_at feeder) =
-    subst (λ (p : RecordPlan). SealsRecordable p (plan_at feeder)) (sym plan)
-    (is_recordable told is_open task s offsets feeder observations stage ready' ready.records) in
-    let told_answer : found.recorded ≡ Some by.answer = answer ∙ by.is in
-    let same = same_files law told is_open task s offsets feeder observations stage r end ready' ready.records plan in
-    let fails : found.recorded ≡ Some FileFault → by.answer ≡ FileFault =
-    λ failed. same_answer _ _ (sym told_answer ∙ failed) in
-    let fine : found.recorded ≢ Some FileFault → by.answer ≢ FileFault =
-    λ not failed. not (told_answer ∙ ap (λ a. Some a) failed) in
+    SealsRecordable (plan_of r) (plan_at feeder) → (by : RecordedBy files_open seen feeder r reader end) →
+    RecordsRun s (told feeder.inputs.now) end.blocks end.feed (Some by.answer) (seen r.files.now) (seen by.files.now)
+records_run law told is_open files_open seen task s offsets feeder observations stage r reader end ready recordable by =
+    let before = seen r.files.now in
+    let after = seen by.files.now in
+    let files = files_through feeder r end in
+    let ends = by.ends recordable in
     record {
       unrecorded = λ not. absurd (true≢false (sym ready.records ∙ not));
-      all = λ not records files are. record {
-        made = λ outset begins.
-            let Blocks : Finished → Type 0 = λ b.
-            HasMade outset false (files_of_stream (stream_for s files) s.file_size (sealed_at_end b)) after in
-            subst Blocks (sym blocks)
-            (subst (λ fs. HasMade outset false fs after) (same files are)
-            (subst (λ seen. HasMade outset false (files_through feeder r end) seen) (sym is)
-            (made_all end.feed (files_through feeder r end) outset (seen by.files.now) by.answer (by.ends recordable)
-            (by.made recordable outset begins) (fine not))));
-        faults = ap (λ (v : FilesSeen). v.faults) is ∙ by.quiet (fine not);
-      };
-      front = λ failed records files are. record {
-        made = λ outset begins.
-            subst (λ b. BreaksOff outset (files_of_stream (stream_for s files) s.file_size (sealed_at_end b)) after)
-            (sym blocks)
-            (subst (λ fs. BreaksOff outset fs after) (same files are)
-            (subst (λ seen. BreaksOff outset (files_through feeder r end) seen) (sym is)
-            (made_front (files_through feeder r end) outset (seen by.files.now) by.answer
-            (by.made recordable outset begins) (fails failed))));
-        rose = subst (λ (v : FilesSeen). Rose (seen r.files.now).faults v.faults) (sym is) (by.failed (fails failed));
-        count = subst (λ (v : FilesSeen). (seen r.files.now).faults ≤ v.faults) (sym is) by.count;
-      };
-      rose = λ failed. subst (λ (v : FilesSeen). Rose (seen r.files.now).faults v.faults) (sym is)
-          (by.failed (fails failed));
-      quiet = λ not. ap (λ (v : FilesSeen). v.faults) is ∙ by.quiet (fine not);
-      count = subst (λ (v : FilesSeen). (seen r.files.now).faults ≤ v.faults) (sym is) by.count;
+      ended = λ is. refl;
+      as_fed = λ answer is.
+          subst (λ a. EndsAsFed end.feed a) (same_answer by.answer answer is)
+          (ends_as_fed end.feed files by.answer ends);
+      made = λ answer is firsts are.
+          let Made : List NamedBytes → RecordEnd → Type 0 = λ made a. MadeBy a made before after in
+          let of_stream = files_of_stream (stream_for s firsts) s.file_size (sealed_at_end end.blocks) in
+          subst (λ a. Made of_stream a) (same_answer by.answer answer is)
+          (subst (λ made. Made made by.answer) (same_files law told is_open task s offsets feeder observations stage r
+          end ready.ready ready.records ready.fresh.plan_is firsts are)
+          (made_by end.feed files before after by.answer ends (by.made recordable) by.failed by.quiet by.count));
+      rose = λ failed. by.failed (same_answer by.answer FileFault failed);
+      quiet = λ not. by.quiet (λ failed. not (ap (λ a. Some a) failed));
+      count = by.count;
     }
   where
     same_answer : (one other : RecordEnd) → Some one ≡ Some other → one ≡ other
     same_answer one other is = cc
+
+-- and so of what was found
+records_found : {I F S : Type 0} (s : SettingsOf S) (told : Told) (observations : ArrayVec (Option Observation))
+    (end : SessionEnd I F) (found : Found) (before after : FilesSeen) → IsFoundOf observations end found →
+    RecordsRun s told end.blocks end.feed end.recorded before after →
+    RecordsRun s told found.blocks found.feed found.recorded before after
+records_found s told observations end found before after is records =
+    let Records : Finished → FeedEnd → Option RecordEnd → Type 0 = λ b f a. RecordsRun s told b f a before after in
+    subst (λ b. Records b found.feed found.recorded) (sym is.blocks)
+    (subst (λ f. Records end.blocks f found.recorded) (sym is.feed)
+    (subst (λ a. Records end.blocks end.feed a) (sym is.recorded) records))
 
 -- ---- all of it
 
@@ -337,12 +327,16 @@ goes_with {I} {F} blocks totals stay said told is_open is_calm faults files_open
     let has = feeds task s before ready'.plan read in
     let no_fault : found.recorded ≢ Some FileFault → by.answer ≢ FileFault =
     λ fine failed. fine (is.recorded ∙ by.is ∙ ap (λ a. Some a) failed) in
+    let Records : Option RecordEnd → F → Type 0 = λ answer files.
+    RecordsRun s (told feeder.inputs.now) end.blocks end.feed answer (seen r.files.now) (seen files) in
     record {
       fed = fed_found told is_open is_calm task s offsets feeder observations stage end found before ready' is has;
-      recorded = said task s (told before) (told feeder.inputs.now) found.blocks found.recorded (seen r.files.now)
-          (seen after) read.names (records_run blocks told is_open files_open seen task s offsets feeder
-          observations.items stage r (length banks) end found (seen after) ready by (ap seen made) is.recorded
-          is.blocks);
+      recorded = said task s (told before) (told feeder.inputs.now) found.blocks found.feed found.recorded
+          (seen r.files.now) (seen after) read.names
+          (records_found s (told feeder.inputs.now) observations end found (seen r.files.now) (seen after) is
+          (subst (λ a. Records a after) (sym by.is) (subst (λ files. Records (Some by.answer) files) (sym made) (records_run blocks told
+          is_open files_open seen task s offsets feeder observations.items stage r (length banks) end ready recordable
+          by))));
       stands = λ not. absurd (true≢false (sym ready.records ∙ not));
       closed = λ fine shut. subst (λ (files : F). ¬ files_open files) (sym made) (by.closed (no_fault fine));
       cleared = clears_found task s observations.items banks end found are shards.cleared
@@ -371,13 +365,14 @@ goes_without {I} {F} totals stay said told is_open is_calm faults files_open see
     let has = feeds task s before ready'.plan read in
     record {
       fed = fed_found told is_open is_calm task s offsets feeder observations stage end found before ready' is has;
-      recorded = said task s (told before) (told feeder.inputs.now) found.blocks found.recorded (seen files)
+      recorded = said task s (told before) (told feeder.inputs.now) found.blocks found.feed found.recorded (seen files)
           (seen after) read.names
           (record {
-            unrecorded = λ not. (ap seen made, λ failed. never (sym no_answer ∙ failed));
-            all = λ fine records. absurd (true≢false (sym records ∙ ready.records_not));
-            front = λ failed records. absurd (true≢false (sym records ∙ ready.records_not));
-            rose = λ failed. absurd (never (sym no_answer ∙ failed));
+            unrecorded = λ not. (ap seen made, no_answer);
+            ended = λ records. absurd (true≢false (sym records ∙ ready.records_not));
+            as_fed = λ answer some. absurd (never answer (sym no_answer ∙ some));
+            made = λ answer some. absurd (never answer (sym no_answer ∙ some));
+            rose = λ failed. absurd (never FileFault (sym no_answer ∙ failed));
             quiet = λ fine. ap (λ (f : F). (seen f).faults) made;
             count = subst (λ (f : F). (seen files).faults ≤ (seen f).faults) (sym made) (omega arith);
           });
@@ -389,5 +384,5 @@ goes_without {I} {F} totals stay said told is_open is_calm faults files_open see
           found before ready' of_stage fed shards is read has;
     }
   where
-    never : None ≡ Some FileFault → ⊥
-    never is = absurd cc
+    never : (answer : RecordEnd) → None ≡ Some answer → ⊥
+    never answer is = cc

@@ -76,7 +76,7 @@ pub record IsDriven {F : Type 0} (task : Task) (s : SettingsFor task) (told : To
     (files_open : F → Type 0) (seen : F → FilesSeen) (before after : F) (found : Found) : Type 0 where
   pub fed : ForWords task s (λ words. IsRunFed task words told found.blocks found.feed)
   pub recorded : ForWords task s (λ words.
-      IsRecorded task words told found.blocks found.recorded (seen before) (seen after))
+      IsRecorded task words told found.blocks found.feed found.recorded (seen before) (seen after))
   pub stands : s.recording ≡ false → after ≡ before
   pub closed : found.recorded ≢ Some FileFault → ¬ files_open before → ¬ files_open after
   pub cleared : ClearsAll task s found

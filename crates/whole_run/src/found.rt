@@ -32,4 +32,6 @@ pub struct ProgramEnd {
     pub stop: Option<Stop>,
     /// What went through its data ring, if there was one.
     pub blocks: Option<Finished>,
+    /// How its recorder ended, if there was one.
+    pub recorded: Option<RecordEnd>,
 }

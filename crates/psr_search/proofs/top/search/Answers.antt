@@ -64,7 +64,7 @@ returns-clause-broken g c = λ failed.
 
 pub returns-in-Err-clause-left : goal.returns-in-Err-clause-left
 returns-in-Err-clause-left g c = λ status zeroth.
-    stand _ g.F.Files.is_open g.F.Files.seen c.args.files.now c.args.files.now _ status refl
+    stand _ g.F.Files.is_open g.F.Files.seen c.args.files.now c.args.files.now _ _ status refl
 
 pub returns-in-Ok-drive-clause-left : goal.returns-in-Ok-drive-clause-left
 returns-in-Ok-drive-clause-left g c = λ status zeroth.
@@ -78,4 +78,5 @@ returns-in-Ok-drive-clause-left g c = λ status zeroth.
 
 pub returns-clause-left : goal.returns-clause-left
 returns-clause-left g c = λ status zeroth.
-    stand _ g.F.Files.is_open g.F.Files.seen c.args.files.now c.drive.new.files _ status c.in-Err-drive.ensures.stands
+    stand _ g.F.Files.is_open g.F.Files.seen c.args.files.now c.drive.new.files _ _ status
+    c.in-Err-drive.ensures.stands
