@@ -88,8 +88,8 @@ files_running t outset headers blocks end seen is files = subst (λ (e : Option 
 
 -- the transfers t, and the end that they came to after these blocks, are those of the space
 module _ {F : Type 0} (files_open : F → Type 0) (seen : F → FilesSeen) (hdu : Hdu) (old : RecorderSpace) (files : F)
-    (pass : HduReader) (new : RecorderSpace) (files' : F) (pass' : HduReader) (t : Transfers) (headers blocks : List Entry)
-    (end : Option RecordEnd) where
+    (pass : HduReader) (new : RecorderSpace) (files' : F) (pass' : HduReader) (t : Transfers)
+    (headers blocks : List Entry) (end : Option RecordEnd) where
   pub has_turned : new.transfers ≡ t → new.end ≡ end → new.block ≡ old.block → cleared_headers pass' ≡ headers →
       cleared_blocks pass' ≡ blocks → ReadsBoth hdu pass' → plan_in t ≡ plan_in old.transfers →
       (end ≡ None → IsOpenAs t.files.place.is_open (files_open files')) → EndsClosed end (files_open files') →
