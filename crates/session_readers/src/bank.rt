@@ -1,6 +1,6 @@
 //! The engines of a shard.
 ghost use Rattle.std.specs.Borrow.{sem};
-ghost use Rattle.std.specs.Prelude.{◌≡◌, ◌≤◌, true, false, [], length, take};
+ghost use Rattle.std.specs.Prelude.{◌≡◌, ◌≤◌, true, false, [], length};
 ghost use Rattle.search_engine.specs.Engine.{EngineState};
 ghost use Rattle.session_readers.specs.Banks.{HasEngine, CanFeedAt, WasFedAt, engines_of, lends_engine};
 
@@ -27,17 +27,6 @@ impl Bank {
             Some(Some(engine)) => engine,
             Some(None) | None => unreachable!(),
         }
-    }
-
-    /// Feeds the engine of a transfer the first `used` bytes of a space. It leaves a chunk that becomes full at the end
-    /// of these bytes.
-    pub(crate) fn feed_front(&mut self, transfer: usize, space: &[u8], used: usize)
-        requires within { used ≤ length space.now }
-        requires ready { CanFeedAt (engines_of self.old) transfer (take used space.now) }
-        ensures { WasFedAt (engines_of self.old) transfer (take used space.now) false
-            (engines_of self.new) }
-    {
-        self.engine(transfer).unpack(&space[..used]);
     }
 
     /// Searches the chunk of a transfer's engine, if it is full.
@@ -74,8 +63,9 @@ impl Bank {
     }
 }
 
-/// Feeds the engine of transfer `part` from a block where it lies in the ring. The engine does not end, and leaves a
-/// chunk that becomes full at the end of the block: the block is given back before that chunk and folds are searched.
+/// Feeds a block to the engine of transfer `part`, from where it lies in the ring or from a copy. The engine does not
+/// end, and leaves a chunk that becomes full at the end of the block: a block that lies in the ring is given back before
+/// that chunk and folds are searched.
 impl BlockTaker for Bank {
     ghost use Rattle.session_readers.specs.Banks.{CanFeed, WasFedBlock};
 
