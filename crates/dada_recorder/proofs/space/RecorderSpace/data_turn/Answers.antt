@@ -6,7 +6,7 @@ use Rattle.ring_ends.specs.Passes.{reader_knows}
 use Rattle.dada_hdu.specs.Answers.{entry}
 use Rattle.dada_recorder.specs.Turns.{cleared_headers, cleared_blocks}
 use Rattle.dada_recorder.proofs.Turning.{cleared_is, front_is, written_is, none_cleared, none_counted, has_turned}
-use Rattle.dada_recorder.proofs.track.Track.data_turn.Goals as goal
+use Rattle.dada_recorder.proofs.space.RecorderSpace.data_turn.Goals as goal
 
 pub returns-in-Ok-clause-turned : goal.returns-in-Ok-clause-turned
 returns-in-Ok-clause-turned g c =
