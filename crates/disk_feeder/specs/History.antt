@@ -106,7 +106,8 @@ ReadsThrough plan before told file readings = (k : ℕ) → k ≤ file → (file
     AreToldWithFirsts k told plan files →
     IsPrefix (history (read_before plan.names (stream_of plan files) k before)) readings
 
--- where the files that were opened are told, and the first one of each transfer, they were read up to the place
+-- Where the files that were opened are told, and the first one of each transfer, they were read up to the place. Those
+-- before the place were read through, whether or not the file there is told.
 pub record ReadsUpTo (plan : Plan) (before told : Told) (at : Place) : Type 0 where
   pub known : (files : List (List ℕ)) → AreToldWithFirsts (opened_at at) told plan files →
       StandsIf at.is_open plan.names (stream_of plan files) before told at
@@ -118,7 +119,8 @@ ReadsBefore plan before told at = (files : List (List ℕ)) →
     AreToldWithFirsts at.file told plan files →
     IsShut plan.names (stream_of plan files) before told at.transfer at.file at.since
 
--- a fault came there, where the file at the place is told too
+-- A fault came there, as is said where the file at the place is told too. Those before it were read through, whether or
+-- not it is told.
 pub record BreaksOffAt (plan : Plan) (before told : Told) (at : Place) : Type 0 where
   pub known : (files : List (List ℕ)) → AreToldWithFirsts (at.file + 1) told plan files →
       BreaksIf at.is_open plan.names (stream_of plan files) before told at
