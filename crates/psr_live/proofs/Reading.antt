@@ -171,6 +171,8 @@ module _ (s : SettingsSeen) (calm calm' : Type 0) (stays : calm → calm') (befo
       passed = b.read.passed;
       cut = b.read.cut;
       stood = b.read.stood;
+      past = b.read.past;
+      through = b.read.through;
       missing = λ c. b.read.missing (stays c);
       shut = λ c. b.read.shut (stays c);
       unopened = λ c. b.read.unopened (stays c);

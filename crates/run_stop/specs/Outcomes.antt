@@ -67,10 +67,10 @@ BreaksFirsts task words is_calm before after = (s : SettingsFor task) → Says t
 -- No file before that one stops the walk, each by the files up to it. By those that were opened, nothing that was read
 -- does, and the full blocks of the transfer are those of the data bytes that were read of it. Where the file at the
 -- place is told too, and the first one of each transfer, it was not opened or its header isn't judged, or it was read
--- up to the place. Whatever the file at the place is: if all files before some file up to there are told, the full
--- blocks are those of data that begin with theirs; and if the first one of each transfer is told too, the first headers
--- and then these files were read to their ends before anything else. Calm inputs could not open the file at the place,
--- since it isn't told: where those before it are, and the first one of each transfer, nothing else was read.
+-- up to the place. Whether or not it is told, the full blocks are those of data that begin with the data of the files
+-- before it, as far as these are told; and where the first one of each transfer is told too, the first headers and then
+-- these files were read to their ends before anything else. Calm inputs could not open it, since it isn't told: where
+-- those before it are, and the first one of each transfer, nothing else was read.
 pub record BreaksWalk
     (task : Task) (words : List (List ℕ)) (is_calm : Type 0) (before after : Told)
     (blocks : Finished) : Type 0 where
