@@ -3,7 +3,6 @@ use Rattle.std.proofs.Common.{◌≡◌, ℕ, ◌+◌, ◌<◌, List, [], Option
 use Rattle.std.specs.Prelude.{⊤, IsSome, slice_index_or}
 use Rattle.std.specs.Option.{ForSome}
 use Rattle.psr_base.specs.Told.{Told, OfFile}
-use Rattle.ring_blocks.specs.declared.Entry.{Entry}
 use Rattle.search_words.specs.Settings.{SettingsOf}
 use Rattle.search_model.specs.declared.search.Search.{Search}
 use Rattle.dada_header.specs.Faults.{IsHeaderRefusal}
@@ -47,7 +46,7 @@ firsts_stay names starts old new files same are =
 
 -- what was sealed at a fault is so whatever the first headers are
 with_headers : (names : List (List ℕ)) (starts : List ℕ) (limit : ℕ) (plan plan' : FeedPlan) (old new : Told) (at : Place)
-    (size : ℕ) (blocks : List Entry) → new.bytes_under ≡ old.bytes_under →
+    (size : ℕ) (blocks : List _) → new.bytes_under ≡ old.bytes_under →
     IsCutPast (record plan { names = names; starts = starts; max_bytes = limit }) new at size blocks →
     IsCutPast (record plan' { names = names; starts = starts; max_bytes = limit }) old at size blocks
 with_headers names starts limit plan plan' old new at size blocks same cut = record {

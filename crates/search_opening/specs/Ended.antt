@@ -5,7 +5,6 @@ use Rattle.std.specs.Prelude.{◌≡◌, ◌≢◌, ℕ, ◌<◌, ◌≤◌, tru
 use Rattle.psr_base.specs.Count.{Rose}
 use Rattle.psr_base.specs.Made.{FilesSeen}
 use Rattle.psr_base.specs.Told.{Told}
-use Rattle.ring_blocks.specs.declared.Entry.{Entry}
 use Rattle.ring_ends.specs.declared.finished.Finished.{Finished}
 use Rattle.ring_ends.specs.Ended.{sealed_at_end}
 use Rattle.search_words.specs.Settings.{SettingsOf, with_search}
@@ -60,7 +59,7 @@ FirstsStayTold = (names : List (List ℕ)) (starts : List ℕ) (old new : Told)
 -- What was sealed at a fault is so for each plan that has the same names, starts and limit, as long as what is told under
 -- these names stands.
 abbrev pub CutsStayTold : Type 0
-CutsStayTold = (plan plan' : Plan) (old new : Told) (at : Place) (size : ℕ) (blocks : List Entry) →
+CutsStayTold = (plan plan' : Plan) (old new : Told) (at : Place) (size : ℕ) (blocks : List _) →
     plan.names ≡ plan'.names → plan.starts ≡ plan'.starts → plan.max_bytes ≡ plan'.max_bytes →
     new.bytes_under ≡ old.bytes_under → IsCutPast plan new at size blocks →
     IsCutPast plan' old at size blocks
