@@ -155,6 +155,7 @@ module _ (s : SettingsSeen) (calm calm' : Type 0) (stays : calm → calm') (befo
     there = b.there;
     earlier = b.earlier;
     broke = b.broke;
+    through = b.through;
     missing = λ c. b.missing (stays c);
     unopened = λ c. b.unopened (stays c);
   }

@@ -182,6 +182,7 @@ where_calm task words first next before after None calm is = λ s said. let b = 
   there = b.there;
   earlier = b.earlier;
   broke = b.broke;
+  through = b.through;
   missing = λ c. b.missing (calm c);
   unopened = λ c. b.unopened (calm c);
 }
