@@ -115,6 +115,8 @@ left_broken told is_calm faults block takes leaves s seen after old start mid ne
               passed = b.passed;
               cut = b.cut;
               stood = b.stood;
+              past = b.past;
+              through = b.through;
               missing = λ calm. b.missing (calmer calm);
               shut = λ calm. b.shut (calmer calm);
               unopened = λ calm. b.unopened (calmer calm);

@@ -155,6 +155,7 @@ module _ (s : SettingsSeen) (calm calm' : Type 0) (stays : calm → calm') (befo
     there = b.there;
     earlier = b.earlier;
     broke = b.broke;
+    through = b.through;
     missing = λ c. b.missing (stays c);
     unopened = λ c. b.unopened (stays c);
   }
@@ -171,6 +172,8 @@ module _ (s : SettingsSeen) (calm calm' : Type 0) (stays : calm → calm') (befo
       passed = b.read.passed;
       cut = b.read.cut;
       stood = b.read.stood;
+      past = b.read.past;
+      through = b.read.through;
       missing = λ c. b.read.missing (stays c);
       shut = λ c. b.read.shut (stays c);
       unopened = λ c. b.read.unopened (stays c);

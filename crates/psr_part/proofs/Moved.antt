@@ -182,6 +182,7 @@ where_calm task words first next before after None calm is = λ s said. let b = 
   there = b.there;
   earlier = b.earlier;
   broke = b.broke;
+  through = b.through;
   missing = λ c. b.missing (calm c);
   unopened = λ c. b.unopened (calm c);
 }
@@ -192,6 +193,8 @@ where_calm task words first next before after (Some blocks) calm is = record {
   passed = is.passed;
   cut = is.cut;
   stood = is.stood;
+  past = is.past;
+  through = is.through;
   missing = λ c. is.missing (calm c);
   shut = λ c. is.shut (calm c);
   unopened = λ c. is.unopened (calm c);

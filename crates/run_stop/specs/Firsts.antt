@@ -1,8 +1,9 @@
 -- The first files of transfers, and the first header of them that is refused: the texts are judged in order, and then
 -- what they say.
 -- Source: PSRDADA manual (a transfer is what one header describes); what is refused is this project's choice.
-use Rattle.std.specs.Prelude.{◌≡◌, ◌+◌, ◌<◌, ℕ, List, [], length, slice_index_or, IsSome, Ok}
-use Rattle.psr_base.specs.Told.{Told, OfFile}
+use Rattle.std.specs.Prelude.{◌≡◌, ◌+◌, ◌<◌, ◌≤◌, ℕ, List, [], length, slice_index_or, IsSome, Ok}
+use mathlib.Core.List.{IsPrefix}
+use Rattle.psr_base.specs.Told.{Told, OfFile, history}
 use Rattle.dada_model.specs.Fields.{HeaderText, fields_of, header_of}
 use Rattle.dada_header.specs.declared.faults.HeaderFault.{HeaderFault}
 use Rattle.dada_header.specs.Faults.{IsHeaderRefusal}
@@ -72,7 +73,8 @@ pub record RefusesFieldsAt (told : Told) (names : List (List ℕ)) (starts : Lis
   pub earlier : EachFirst told names starts transfer IsAccepted
 
 -- A fault came before the header of some transfer's first file was judged. Those of the transfers before it have
--- headers; where they and the file are told, they were read, and of it not enough to judge its header. Calm inputs fail
+-- headers; where they and the file are told, they were read, and of it not enough to judge its header. Whether or not
+-- the file is told, those before it were read in order before anything else, as far as they are told. Calm inputs fail
 -- only where it isn't told; where those before it are, they were read, and nothing else was.
 pub record BreaksFirstAt (names : List (List ℕ)) (starts : List ℕ) (is_calm : Type 0)
     (before after : Told) : Type 0 where
@@ -85,6 +87,10 @@ pub record BreaksFirstAt (names : List (List ℕ)) (starts : List ℕ) (is_calm 
       let first_of : ℕ → List ℕ = λ k. slice_index_or files (first_at names starts k) [] in
       BreaksAt (first_name names starts transfer) (first_of transfer)
       (firsts_read (first_name names starts) first_of transfer before) after
+  pub through : (k : ℕ) → k ≤ transfer → (files : List (List ℕ)) →
+      AreToldAt (IsFirstBefore (first_at names starts k) starts (length names)) before names files →
+      let first_of : ℕ → List ℕ = λ j. slice_index_or files (first_at names starts j) [] in
+      IsPrefix (history (firsts_read (first_name names starts) first_of k before)) (history after)
   pub missing : is_calm → ¬ IsSome (before.bytes_under (first_name names starts transfer))
   pub unopened : is_calm → (files : List (List ℕ)) →
       AreToldAt (IsFirstBefore (first_at names starts transfer) starts (length names)) before

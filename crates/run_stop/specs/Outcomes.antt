@@ -2,8 +2,9 @@
 -- Source: this project's choice.
 use Rattle.std.specs.Prelude.{◌≡◌, ◌≢◌, ℕ, ◌+◌, ◌<◌, ◌≤◌, ◌⊎◌, true, false, min, List, [], ◌∷◌, length, map, Option, Some, None, Result, Ok, Err, IsSome, Contains}
 use Rattle.std.specs.List.{range_with_len}
+use mathlib.Core.List.{IsPrefix}
 use Rattle.psr_base.specs.Count.{Rose}
-use Rattle.psr_base.specs.Told.{Told, InputsSeen}
+use Rattle.psr_base.specs.Told.{Told, InputsSeen, history}
 use Rattle.psr_base.specs.Made.{NamedBytes, FilesSeen}
 use Rattle.psr_base.specs.Written.{SinkSeen, Noted}
 use Rattle.ring_blocks.specs.declared.Entry.{Entry}
@@ -16,9 +17,9 @@ use Rattle.dada_recorder.specs.declared.answers.RecordEnd.{RecordEnd}
 use Rattle.dada_recorder.specs.declared.answers.RecordEnd.TheVariants as recorder
 use Rattle.dada_recorder.specs.Making.{Outset, BeginsAt, HasMade, BreaksOff}
 use Rattle.disk_feeder.specs.declared.place.Place.{Place}
-use Rattle.disk_feeder.specs.Feeding.{IsBroken, IsCutAt}
+use Rattle.disk_feeder.specs.Feeding.{IsBroken, IsCutAt, IsCutPast}
 use Rattle.disk_feeder.specs.Filling.{HoldsAll}
-use Rattle.disk_feeder.specs.History.{file_name, IsShut, BreaksIf}
+use Rattle.disk_feeder.specs.History.{file_name, read_before, IsShut, BreaksIf}
 use Rattle.disk_feeder.specs.Plan.{opened_at}
 use Rattle.disk_feeder.specs.declared.answers.HeaderCause.{HeaderCause}
 use Rattle.run_stop.specs.Firsts.{ReadsFirsts, BreaksFirstAt}
@@ -27,7 +28,7 @@ use Rattle.run_stop.specs.declared.causes.RecordingCause.{RecordingCause}
 use Rattle.run_stop.specs.declared.stop.Stop.{Stop}
 use Rattle.run_stop.specs.declared.stop.Stop.TheVariants.{Header, Gap, TooLong}
 use Rattle.run_stop.specs.Texts.{status_of, note_of}
-use Rattle.run_stop.specs.Runs.{Task, SettingsFor, Says, ForFiles, ForFirsts, ForFilesTo, ForFilesWithFirsts, first_recording, CanBegin, BeginsByFirsts, RefusesFirsts, RefusesSearches, RefusesRecordings, PassesTo, IsWalkStop, StopsThere, SaysOfFiles, IsStopOfWords}
+use Rattle.run_stop.specs.Runs.{Task, SettingsFor, Says, ForFiles, ForFirsts, ForFilesTo, ForFilesWithFirsts, plan_for, first_recording, CanBegin, BeginsByFirsts, RefusesFirsts, RefusesSearches, RefusesRecordings, PassesTo, IsWalkStop, StopsThere, SaysOfFiles, IsStopOfWords}
 
 -- ---- the words
 
@@ -68,8 +69,10 @@ BreaksFirsts task words is_calm before after = (s : SettingsFor task) → Says t
 -- No file before that one stops the walk, each by the files up to it. By those that were opened, nothing that was read
 -- does, and the full blocks of the transfer are those of the data bytes that were read of it. Where the file at the
 -- place is told too, and the first one of each transfer, it was not opened or its header isn't judged, or it was read
--- up to the place. Calm inputs could not open it, since it isn't told: where those before it are, and the first one of
--- each transfer, the first headers and then those files were read, and nothing else was.
+-- up to the place. Whether or not it is told, the full blocks are those of data that begin with the data of the files
+-- before it, as far as these are told; and where the first one of each transfer is told too, the first headers and then
+-- these files were read to their ends before anything else. Calm inputs could not open it, since it isn't told: where
+-- those before it are, and the first one of each transfer, nothing else was read.
 pub record BreaksWalk
     (task : Task) (words : List (List ℕ)) (is_calm : Type 0) (before after : Told)
     (blocks : Finished) : Type 0 where
@@ -81,6 +84,10 @@ pub record BreaksWalk
       IsCutAt w at s.size (sealed_at_end blocks))
   pub stood : ForFilesWithFirsts (at.file + 1) task words before (λ s w.
       BreaksIf at.is_open s.names w before after at)
+  pub past : (s : SettingsFor task) → Says task words s →
+      IsCutPast (plan_for s) before at s.size (sealed_at_end blocks)
+  pub through : (k : ℕ) → k ≤ at.file → ForFilesWithFirsts k task words before (λ s w.
+      IsPrefix (history (read_before s.names w k before)) (history after))
   pub missing : is_calm → (s : SettingsFor task) → Says task words s →
       (at.file < length s.names) × ¬ IsSome (before.bytes_under (file_name s.names at.file))
   pub shut : is_calm → at.is_open ≡ false

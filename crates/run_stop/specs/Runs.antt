@@ -1,6 +1,6 @@
 -- What a run of a program is over: the settings that its words say, and the files that they name, as a walk sees them.
 -- Source: PSRDADA manual (a transfer is what one header describes); what is refused is this project's choice.
-use Rattle.std.specs.Prelude.{◌≡◌, ⊤, ℕ, ◌+◌, ◌^◌, ◌-◌, ◌<◌, ◌⊎◌, min, Bool, true, false, List, length, map, Option, Some, None}
+use Rattle.std.specs.Prelude.{◌≡◌, ⊤, ℕ, ◌+◌, ◌^◌, ◌-◌, ◌<◌, ◌⊎◌, min, Bool, true, false, List, [], length, map, Option, Some, None}
 use Rattle.std.specs.List.{range_with_len}
 use Rattle.dada_model.specs.Fields.{header_of}
 use Rattle.dada_model.specs.Observation.{Observation}
@@ -21,7 +21,7 @@ use Rattle.transfer_text.specs.Searched.{ObservedTransfer, candidate_total}
 use Rattle.dada_recorder.specs.Blocks.{header_or_none}
 use Rattle.dada_recorder.specs.Changes.{recording}
 use Rattle.disk_feeder.specs.Ends.{fault_of}
-use Rattle.disk_feeder.specs.Plan.{AreTold, AreToldAt, IsFirstFile, IsAmong}
+use Rattle.disk_feeder.specs.Plan.{Plan as FeedPlan, AreTold, AreToldAt, IsFirstFile, IsAmong}
 use Rattle.disk_feeder.specs.Reading.{StopsAtFile}
 use Rattle.disk_feeder.specs.declared.answers.HeaderCause.{HeaderCause}
 use Rattle.disk_feeder.specs.declared.answers.HeaderCause.TheVariants.{Text, Fields}
@@ -95,6 +95,16 @@ Explains (Alone lone) words fault = ExplainsAlone lone words fault
 -- the files of settings as a walk sees them
 abbrev pub stream_for : {S : Type 0} → SettingsOf S → List (List ℕ) → FileStream
 stream_for s files = record { files = files; starts = s.starts; max_bytes = s.max_bytes }
+
+-- the plan of a feeder that reads these files, without their first headers
+abbrev pub plan_for : {S : Type 0} → SettingsOf S → FeedPlan
+plan_for s = record {
+  names = s.names;
+  starts = s.starts;
+  max_bytes = s.max_bytes;
+  headers = [];
+  firsts = [];
+}
 
 -- P holds of the settings that the words say, and of the files that they name, where the bytes of all are told
 abbrev pub ForFiles : (task : Task) → List (List ℕ) → Told

@@ -13,9 +13,11 @@ use Rattle.stream_model.specs.Walk.{transfer_data}
 use Rattle.disk_feeder.specs.declared.answers.FeedEnd.{FeedEnd}
 use Rattle.disk_feeder.specs.declared.answers.FeedEnd.TheVariants.{Whole, ReadFault}
 use Rattle.disk_feeder.specs.declared.feeder.Feeder.{Feeder}
+use Rattle.disk_feeder.specs.declared.place.Place.{Place}
 use Rattle.disk_feeder.specs.Feeder.{HasPlan, FeederRead}
+use Rattle.disk_feeder.specs.Feeding.{IsCutPast}
 use Rattle.disk_feeder.specs.Filling.{HoldsAll}
-use Rattle.disk_feeder.specs.Plan.{AreToldAt, IsFirstFile}
+use Rattle.disk_feeder.specs.Plan.{Plan, AreToldAt, IsFirstFile}
 use Rattle.dada_recorder.specs.declared.answers.RecordEnd.{RecordEnd}
 use Rattle.dada_recorder.specs.declared.answers.RecordEnd.TheVariants.{FileFault}
 use Rattle.search_session.specs.declared.ended.SessionEnd.{SessionEnd}
@@ -53,6 +55,14 @@ FirstsStayTold = (names : List (List ℕ)) (starts : List ℕ) (old new : Told)
     (files : List (List ℕ)) → new.bytes_under ≡ old.bytes_under →
     AreToldAt (IsFirstFile starts (length names)) old names files →
     AreToldAt (IsFirstFile starts (length names)) new names files
+
+-- What was sealed at a fault is so for each plan that has the same names, starts and limit, as long as what is told under
+-- these names stands.
+abbrev pub CutsStayTold : Type 0
+CutsStayTold = (plan plan' : Plan) (old new : Told) (at : Place) (size : ℕ) (blocks : List _) →
+    plan.names ≡ plan'.names → plan.starts ≡ plan'.starts → plan.max_bytes ≡ plan'.max_bytes →
+    new.bytes_under ≡ old.bytes_under → IsCutPast plan new at size blocks →
+    IsCutPast plan' old at size blocks
 
 -- ---- by its session
 
