@@ -22,10 +22,10 @@ use Rattle.disk_feeder.specs.Feeding.{EndIs}
 use Rattle.disk_feeder.specs.declared.place.Place.{Place}
 use Rattle.disk_feeder.specs.Plan.{AreTold, AreToldAt, IsFirstFile, opened_at}
 use Rattle.disk_feeder.specs.Reading.{judged_at}
-use Rattle.run_stop.specs.declared.stop.Stop.TheVariants as halts
-use Rattle.run_stop.specs.Conversions.{stop_of_feed}
-use Rattle.run_stop.specs.Ends.{AcceptedIsNotRefused}
-use Rattle.run_stop.specs.Runs.{RecordingAlone, RefusesFirstHeader, stop_of_walk, stream_for}
+use Rattle.run_outcome.specs.declared.stop.Stop.TheVariants as halts
+use Rattle.run_outcome.specs.Conversions.{stop_of_feed}
+use Rattle.run_outcome.specs.Ends.{AcceptedIsNotRefused}
+use Rattle.run_outcome.specs.Runs.{RecordingAlone, RefusesFirstHeader, stop_of_walk, stream_for}
 use Rattle.search_opening.specs.Early.{SaysEarly}
 use Rattle.drive_stream.specs.declared.stop.StreamStop.{StreamStop}
 use Rattle.drive_stream.specs.declared.stop.StreamStop.TheVariants.{Run}

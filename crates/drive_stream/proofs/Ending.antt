@@ -15,7 +15,7 @@ use Rattle.disk_feeder.specs.declared.answers.FeedEnd.TheVariants.{Whole, ReadFa
 use Rattle.disk_feeder.specs.Feeding.{EndIs, IsWalkEnd}
 use Rattle.disk_feeder.specs.Plan.{AreTold, IsFirstFile}
 use Rattle.disk_feeder.specs.Reading.{judged_at}
-use Rattle.run_stop.specs.Runs.{stream_for}
+use Rattle.run_outcome.specs.Runs.{stream_for}
 use Rattle.search_opening.specs.Settings.{OfRun}
 use Rattle.drive_stream.specs.declared.stop.StreamStop.{StreamStop}
 use Rattle.drive_stream.specs.Endings.{Ending, All, Early, Failed, Refused, Midway, AtEnd, AtStop}

@@ -28,8 +28,8 @@ use Rattle.disk_feeder.specs.Handing.{FeederHands}
 use Rattle.disk_feeder.specs.Laws.{FaultsLeave, FeedersBegin}
 use Rattle.disk_feeder.specs.Plan.{Plan, stream_of, AreTold, IsAmong, IsFirstFile, opened_at}
 use Rattle.disk_feeder.specs.Reading.{judged_at}
-use Rattle.run_stop.specs.Runs.{plan_for, stream_for}
-use Rattle.run_stop.specs.declared.stop.Stop.TheVariants as halts
+use Rattle.run_outcome.specs.Runs.{plan_for, stream_for}
+use Rattle.run_outcome.specs.declared.stop.Stop.TheVariants as halts
 use Rattle.search_opening.specs.Ended.{CutsStayTold}
 use Rattle.search_opening.specs.Settings.{OfRun, OfRunFirsts}
 use Rattle.drive_stream.specs.declared.stop.StreamStop.{StreamStop}

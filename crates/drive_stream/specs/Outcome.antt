@@ -24,9 +24,9 @@ use Rattle.disk_feeder.specs.Feeding.{EndIs, IsCutAt, IsCutPast, StopsWalkAt}
 use Rattle.disk_feeder.specs.History.{BreaksIf, IsShut, file_name, read_before}
 use Rattle.disk_feeder.specs.Plan.{IsAmong, opened_at}
 use Rattle.disk_feeder.specs.Reading.{judged_at}
-use Rattle.run_stop.specs.declared.stop.Stop.TheVariants.{Memory, ReadFault, SinkFault}
-use Rattle.run_stop.specs.Firsts.{BreaksFirstAt, ReadsFirsts, first_file}
-use Rattle.run_stop.specs.Runs.{OfEachFirst, RecordingAlone, first_observation, plan_for}
+use Rattle.run_outcome.specs.declared.stop.Stop.TheVariants.{Memory, ReadFault, SinkFault}
+use Rattle.run_outcome.specs.Firsts.{BreaksFirstAt, ReadsFirsts, first_file}
+use Rattle.run_outcome.specs.Runs.{OfEachFirst, RecordingAlone, first_observation, plan_for}
 use Rattle.search_opening.specs.Early.{SaysEarly}
 use Rattle.search_opening.specs.First.{ComesFirst}
 use Rattle.search_opening.specs.Settings.{JudgesRun, OfRun, OfRunAt, OfRunFirsts, OfRunTo, PassesRunTo}

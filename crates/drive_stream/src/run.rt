@@ -15,7 +15,7 @@ use crate::streaming::Streaming;
 use crate::writing::write_stream;
 use disk_feeder::{Feeder, FeederSpace};
 use psr_base::{Inputs, Sink};
-use run_stop::Stop;
+use run_outcome::Stop;
 use search_words::RunSettings;
 use std::alloc::Global;
 use std::sync::Wait;

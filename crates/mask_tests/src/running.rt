@@ -2,7 +2,7 @@
 use psr_base::{MemFiles, MemInputs, MemSink};
 use psr_mask::run_mask_in_memory;
 use psr_search::run_in_memory;
-use run_stop::Ran;
+use run_outcome::Ran;
 use search_session::NoGate;
 use std::alloc::Global;
 use std::sync::Wait;

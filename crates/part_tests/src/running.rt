@@ -1,7 +1,7 @@
 // Runs over objects in memory, and what they leave.
 use psr_base::{MemInputs, MemSink};
 use psr_part::run_part_in_memory;
-use run_stop::Ran;
+use run_outcome::Ran;
 use std::alloc::Global;
 use std::sync::Wait;
 use std::test::Fail;

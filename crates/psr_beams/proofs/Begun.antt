@@ -17,9 +17,9 @@ use Rattle.disk_feeder.specs.Front.{BreaksAt}
 use Rattle.disk_feeder.specs.History.{firsts_read}
 use Rattle.disk_feeder.specs.Resting.{at_rest}
 use Rattle.disk_feeder.specs.Sources.{first_name, RefusesFirst}
-use Rattle.run_stop.specs.declared.stop.Stop.{Stop}
-use Rattle.run_stop.specs.declared.stop.Stop.TheVariants.{Memory, ReadFault}
-use Rattle.run_stop.specs.Firsts.{HasHeader}
+use Rattle.run_outcome.specs.declared.stop.Stop.{Stop}
+use Rattle.run_outcome.specs.declared.stop.Stop.TheVariants.{Memory, ReadFault}
+use Rattle.run_outcome.specs.Firsts.{HasHeader}
 use Rattle.psr_beams.specs.Files.{beam_name, header_read}
 use Rattle.psr_beams.specs.Feeders.{LeavesData, SlotRead, HasBegun, SlotBegun, ReadsHeader, SaysText, FailsHeader, AreRead, AreBegun, HaveRead, stop_of_header_at}
 use Rattle.psr_beams.proofs.Counting.{retyped}

@@ -11,8 +11,8 @@ use Rattle.beam_set.specs.declared.ended.BeamEnd.{BeamEnd}
 use Rattle.beam_set.specs.declared.space.BeamSpace.{BeamSpace}
 use Rattle.beam_set.specs.Laws.{BeamsHoldData}
 use Rattle.beam_set.specs.Later.{LaterHeadersAgree}
-use Rattle.run_stop.specs.declared.stop.Stop.{Stop}
-use Rattle.run_stop.specs.Lone.{IsOfOne}
+use Rattle.run_outcome.specs.declared.stop.Stop.{Stop}
+use Rattle.run_outcome.specs.Lone.{IsOfOne}
 use Rattle.psr_beams.specs.Judged.{headers_in, AreOfOne}
 use Rattle.psr_beams.specs.Engines.{AreSpaces}
 use Rattle.psr_beams.specs.Feeders.{AreRead, AreBegun}

@@ -14,11 +14,11 @@ use Rattle.disk_feeder.specs.declared.answers.FeedEnd.{FeedEnd}
 use Rattle.disk_feeder.specs.declared.answers.FeedEnd.TheVariants as feed
 use Rattle.beam_set.specs.declared.ended.BeamEnd.{BeamEnd}
 use Rattle.beam_set.specs.Later.{LaterHeadersAgree}
-use Rattle.run_stop.specs.declared.stop.Stop.{Stop}
+use Rattle.run_outcome.specs.declared.stop.Stop.{Stop}
 use Rattle.obs_plan.specs.declared.fault.ObsFault.{ObsFault}
 use Rattle.disk_feeder.specs.declared.answers.HeaderCause.TheVariants.{Fields}
-use Rattle.run_stop.specs.declared.stop.Stop.TheVariants.{Header, Memory, ReadFault, Gap, SinkFault}
-use Rattle.run_stop.specs.Ends.{WordsSayOnce}
+use Rattle.run_outcome.specs.declared.stop.Stop.TheVariants.{Header, Memory, ReadFault, Gap, SinkFault}
+use Rattle.run_outcome.specs.Ends.{WordsSayOnce}
 use Rattle.psr_beams.specs.Words.{SayBeams, searching_beams, is_beam_count, within_in, more_in}
 use Rattle.psr_beams.specs.Seen.{told_at, calm_at, seen_at}
 use Rattle.psr_beams.specs.Files.{ForSettings, OfBeam, beam_name, header_read}

@@ -16,11 +16,11 @@ use Rattle.stream_model.specs.Walk.{WalkStop, walk_stop}
 use Rattle.stream_model.specs.WalkLaws.{IsAccepted}
 use Rattle.disk_feeder.specs.declared.answers.HeaderCause.{HeaderCause}
 use Rattle.disk_feeder.specs.declared.answers.HeaderCause.TheVariants.{Text, Fields}
-use Rattle.run_stop.specs.declared.causes.PlanCause.{PlanCause}
-use Rattle.run_stop.specs.declared.causes.PlanCause.TheVariants.{SumBound, FoldTooLarge, TooManyFolds, TooManyShards}
-use Rattle.run_stop.specs.declared.stop.Stop.{Stop}
-use Rattle.run_stop.specs.declared.stop.Stop.TheVariants.{Header, Gap}
-use Rattle.run_stop.specs.Runs.{IsPlanCause, stop_of_walk}
+use Rattle.run_outcome.specs.declared.causes.PlanCause.{PlanCause}
+use Rattle.run_outcome.specs.declared.causes.PlanCause.TheVariants.{SumBound, FoldTooLarge, TooManyFolds, TooManyShards}
+use Rattle.run_outcome.specs.declared.stop.Stop.{Stop}
+use Rattle.run_outcome.specs.declared.stop.Stop.TheVariants.{Header, Gap}
+use Rattle.run_outcome.specs.Runs.{IsPlanCause, stop_of_walk}
 use Rattle.psr_beams.specs.Files.{beam_file, beam_stream, beams_observation}
 use Rattle.psr_beams.specs.Refusals.{later_stop, HaveHeaders, RefusesText, RefusesFirst, StopsLater, RefusesLater, AreAccepted, CanSearch, RefusesSearch}
 use Rattle.psr_beams.specs.Found.{StopsBeam, AreWhole, HasTooMany, AreSearched}

@@ -21,10 +21,10 @@ use Rattle.beam_set.specs.declared.ended.BeamEnd.{BeamEnd}
 use Rattle.beam_set.specs.Laws.{HoldsData, BeamsHoldData}
 use Rattle.beam_set.specs.Later.{LaterHeadersAgree}
 use Rattle.beam_set.specs.Searched.{searched_beams_text}
-use Rattle.run_stop.specs.declared.stop.Stop.{Stop}
-use Rattle.run_stop.specs.declared.stop.Stop.TheVariants.{Header, ReadFault, Gap, TooLong, TooMany, SinkFault}
-use Rattle.run_stop.specs.Ends.{WordsSayOnce}
-use Rattle.run_stop.specs.Runs.{stop_of_walk}
+use Rattle.run_outcome.specs.declared.stop.Stop.{Stop}
+use Rattle.run_outcome.specs.declared.stop.Stop.TheVariants.{Header, ReadFault, Gap, TooLong, TooMany, SinkFault}
+use Rattle.run_outcome.specs.Ends.{WordsSayOnce}
+use Rattle.run_outcome.specs.Runs.{stop_of_walk}
 use Rattle.psr_beams.specs.Words.{SayBeams, within_in, more_in}
 use Rattle.psr_beams.specs.Seen.{told_at, calm_at, seen_at}
 use Rattle.psr_beams.specs.Files.{AreBeamsTold, ForBeams, ForSettings, beam_file, beam_name, beams_observation, IsReadOn}

@@ -13,7 +13,7 @@ use Rattle.disk_feeder.specs.declared.answers.FeedEnd.TheVariants as feed
 use Rattle.disk_feeder.specs.Ends.{end_of}
 use Rattle.beam_set.specs.declared.ended.BeamEnd.{BeamEnd}
 use Rattle.beam_set.specs.Laws.{HoldsData, BeamsHoldData}
-use Rattle.run_stop.specs.declared.stop.Stop.TheVariants.{ReadFault, TooLong}
+use Rattle.run_outcome.specs.declared.stop.Stop.TheVariants.{ReadFault, TooLong}
 use Rattle.psr_beams.specs.Files.{beam_name, stream_of_one}
 use Rattle.psr_beams.specs.Driven.{HasSlotCome, HaveCome}
 use Rattle.psr_beams.specs.Ends.{stop_at_data, stop_at_header, slot_stop, NoneStops}

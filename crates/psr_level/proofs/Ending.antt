@@ -5,7 +5,7 @@ use Rattle.psr_base.specs.Inputs.{HasReadFrom}
 use Rattle.psr_base.specs.Told.{Told}
 use Rattle.psr_base.specs.Written.{SinkSeen, WroteAll}
 use Rattle.disk_feeder.specs.Filling.{HoldsAll}
-use Rattle.run_stop.specs.declared.stop.Stop.TheVariants.{ReadFault}
+use Rattle.run_outcome.specs.declared.stop.Stop.TheVariants.{ReadFault}
 use Rattle.search_words.specs.Settings.{RunInRange}
 use Rattle.search_opening.specs.Settings.{OfRun}
 use Rattle.level_words.specs.Settings.{LevelSeen, SayLevel}

@@ -5,12 +5,12 @@ use Rattle.psr_base.specs.Written.{SinkSeen}
 use Rattle.search_words.specs.Settings.{RunInRange}
 use Rattle.stream_model.specs.Walk.{FileStream}
 use Rattle.stream_model.specs.WalkLaws.{AreWalked}
-use Rattle.run_stop.specs.declared.stop.Stop.{Stop}
-use Rattle.run_stop.specs.declared.stop.Stop.TheVariants as halts
-use Rattle.run_stop.specs.Ends.{StatusesSayStops}
-use Rattle.run_stop.specs.Firsts.{ReadsFirsts}
-use Rattle.run_stop.specs.Runs.{stream_for}
-use Rattle.run_stop.specs.Texts.{status_of}
+use Rattle.run_outcome.specs.declared.stop.Stop.{Stop}
+use Rattle.run_outcome.specs.declared.stop.Stop.TheVariants as halts
+use Rattle.run_outcome.specs.Ends.{StatusesSayStops}
+use Rattle.run_outcome.specs.Firsts.{ReadsFirsts}
+use Rattle.run_outcome.specs.Runs.{stream_for}
+use Rattle.run_outcome.specs.Texts.{status_of}
 use Rattle.search_opening.specs.Settings.{OfRunFirsts}
 use Rattle.level_words.specs.declared.fault.LevelFault.{LevelFault}
 use Rattle.level_words.specs.declared.fault.LevelFault.TheVariants as faults

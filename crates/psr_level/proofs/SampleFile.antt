@@ -14,7 +14,7 @@ use Rattle.stream_model.specs.Walk as walk
 use Rattle.stream_model.specs.Walk.{FileStream, data_of, data_between, transfer_of, observation_at, header_stop, length_stop, stop_at, transfer_data, walk_stop}
 use Rattle.stream_model.specs.WalkLaws.{AreWalked, IsAccepted}
 use Rattle.disk_feeder.specs.Plan.{AreTold}
-use Rattle.run_stop.specs.Runs.{first_observation, stream_for}
+use Rattle.run_outcome.specs.Runs.{first_observation, stream_for}
 use Rattle.band_level.specs.Finished.{kept_before, kept_sum, finished}
 use Rattle.band_level.specs.Levelled.{levelled, fine, fine_before, spectrum_levels, first_levels}
 use Rattle.band_level.specs.Scales.{root}

@@ -31,15 +31,15 @@ use Rattle.warm_restart.specs.Checkpoint.{IsCheckpointText, IsJudged, IsNoCheckp
 use Rattle.warm_restart.specs.Counts.{greatest_count}
 use Rattle.warm_restart.specs.Laws.{TextsSayOne}
 use Rattle.warm_restart.specs.Named.{new_word}
-use Rattle.run_stop.specs.declared.causes.PlanCause.{PlanCause}
-use Rattle.run_stop.specs.declared.causes.PlanCause.TheVariants.{SumBound, FoldTooLarge, TooManyFolds, TooManyShards}
-use Rattle.run_stop.specs.declared.stop.Stop.{Stop}
-use Rattle.run_stop.specs.declared.stop.Stop.TheVariants as halts
-use Rattle.run_stop.specs.Conversions.{stop_of_words}
-use Rattle.run_stop.specs.Ends.{AcceptedIsNotRefused, CountsFaults, EndAtWords, WordsSayOnce}
-use Rattle.run_stop.specs.Firsts.{first_file}
-use Rattle.run_stop.specs.Lone.{ExplainsAlone}
-use Rattle.run_stop.specs.Runs.{Alone, CanSearch, IsPlanCause, RefusesFirstHeader, RefusesSearch, first_observation, stop_of_walk, stream_for}
+use Rattle.run_outcome.specs.declared.causes.PlanCause.{PlanCause}
+use Rattle.run_outcome.specs.declared.causes.PlanCause.TheVariants.{SumBound, FoldTooLarge, TooManyFolds, TooManyShards}
+use Rattle.run_outcome.specs.declared.stop.Stop.{Stop}
+use Rattle.run_outcome.specs.declared.stop.Stop.TheVariants as halts
+use Rattle.run_outcome.specs.Conversions.{stop_of_words}
+use Rattle.run_outcome.specs.Ends.{AcceptedIsNotRefused, CountsFaults, EndAtWords, WordsSayOnce}
+use Rattle.run_outcome.specs.Firsts.{first_file}
+use Rattle.run_outcome.specs.Lone.{ExplainsAlone}
+use Rattle.run_outcome.specs.Runs.{Alone, CanSearch, IsPlanCause, RefusesFirstHeader, RefusesSearch, first_observation, stop_of_walk, stream_for}
 use Rattle.drive_stream.specs.declared.stop.StreamStop.{StreamStop}
 use Rattle.drive_stream.specs.declared.stop.StreamStop.TheVariants as streamed
 use Rattle.drive_stream.specs.Endings.{Ending, Phase, All, Early, Failed, Refused, Midway, AtEnd, AtStop}

@@ -26,13 +26,13 @@ use Rattle.warm_restart.specs.declared.checkpoint.CheckpointFault.{CheckpointFau
 use Rattle.warm_restart.specs.declared.checkpoint.CheckpointFault.TheVariants as check
 use Rattle.warm_restart.specs.Checkpoint.{IsJudged}
 use Rattle.warm_restart.specs.Counts.{greatest_count}
-use Rattle.run_stop.specs.declared.stop.Stop.{Stop}
-use Rattle.run_stop.specs.declared.stop.Stop.TheVariants.{Words, Value, Header, Plan, Recording, Memory, ReadFault, Gap, TooLong, TooMany, SinkFault, FileFault}
-use Rattle.run_stop.specs.Conversions.{stop_of_feed, stop_of_words}
-use Rattle.run_stop.specs.Ends.{WordsSayOnce}
-use Rattle.run_stop.specs.Texts.{status_of}
-use Rattle.run_stop.specs.Runs.{Alone, CanSearch, stream_for}
-use Rattle.run_stop.specs.Firsts.{first_file}
+use Rattle.run_outcome.specs.declared.stop.Stop.{Stop}
+use Rattle.run_outcome.specs.declared.stop.Stop.TheVariants.{Words, Value, Header, Plan, Recording, Memory, ReadFault, Gap, TooLong, TooMany, SinkFault, FileFault}
+use Rattle.run_outcome.specs.Conversions.{stop_of_feed, stop_of_words}
+use Rattle.run_outcome.specs.Ends.{WordsSayOnce}
+use Rattle.run_outcome.specs.Texts.{status_of}
+use Rattle.run_outcome.specs.Runs.{Alone, CanSearch, stream_for}
+use Rattle.run_outcome.specs.Firsts.{first_file}
 use Rattle.search_opening.specs.First.{ComesFirst}
 use Rattle.drive_stream.specs.declared.stop.StreamStop.{StreamStop}
 use Rattle.drive_stream.specs.declared.stop.StreamStop.TheVariants as streamed

@@ -15,10 +15,10 @@ use Rattle.warm_restart.specs.declared.checkpoint.Checkpoint.{Checkpoint}
 use Rattle.warm_restart.specs.declared.checkpoint.CheckpointFault.{CheckpointFault}
 use Rattle.warm_restart.specs.declared.checkpoint.CheckpointFault.TheVariants as check
 use Rattle.warm_restart.specs.Named.{most_read, named_text, new_word, ReadsFront}
-use Rattle.run_stop.specs.declared.stop.Stop.{Stop}
-use Rattle.run_stop.specs.declared.stop.Stop.TheVariants.{Memory, ReadFault}
-use Rattle.run_stop.specs.Conversions.{stop_of_words}
-use Rattle.run_stop.specs.Firsts.{BreaksFirstAt}
+use Rattle.run_outcome.specs.declared.stop.Stop.{Stop}
+use Rattle.run_outcome.specs.declared.stop.Stop.TheVariants.{Memory, ReadFault}
+use Rattle.run_outcome.specs.Conversions.{stop_of_words}
+use Rattle.run_outcome.specs.Firsts.{BreaksFirstAt}
 use Rattle.drive_stream.specs.declared.stop.StreamStop.{StreamStop}
 use Rattle.drive_stream.specs.declared.stop.StreamStop.TheVariants as streamed
 use Rattle.drive_stream.specs.Endings.{Ending}

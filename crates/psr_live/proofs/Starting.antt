@@ -19,7 +19,7 @@ use Rattle.warm_restart.specs.declared.checkpoint.CheckpointFault.TheVariants as
 use Rattle.warm_restart.specs.Checkpoint.{IsJudged}
 use Rattle.warm_restart.specs.Counts.{greatest_count}
 use Rattle.warm_restart.specs.Named.{named_text, new_word}
-use Rattle.run_stop.specs.declared.stop.Stop.TheVariants.{ReadFault}
+use Rattle.run_outcome.specs.declared.stop.Stop.TheVariants.{ReadFault}
 use Rattle.drive_stream.specs.declared.stop.StreamStop.{StreamStop}
 use Rattle.drive_stream.specs.declared.stop.StreamStop.TheVariants as streamed
 use Rattle.drive_stream.specs.Endings.{Ending}

@@ -8,7 +8,7 @@ use Rattle.dada_model.specs.Observation.{Observation}
 use Rattle.psr_base.specs.Written.{PiecesJoin, SinkSeen, WroteAll, WroteFront, room_after}
 use Rattle.search_model.specs.Plan.{PlanRefusal}
 use Rattle.search_model.specs.Observed.{filterbank_of}
-use Rattle.run_stop.specs.declared.causes.PlanCause.TheVariants.{SumBound, FoldTooLarge, TooManyFolds, TooManyShards}
+use Rattle.run_outcome.specs.declared.causes.PlanCause.TheVariants.{SumBound, FoldTooLarge, TooManyFolds, TooManyShards}
 use Rattle.live_search.specs.Laws.{LiveDataGrow}
 use Rattle.live_search.specs.Live.{BrokeOff, Task, WasFed, WroteOn, so_far}
 use Rattle.live_search.specs.declared.live.LiveSearch.{LiveSearch}

@@ -1,7 +1,7 @@
 -- What is accepted is recorded: at no other status nothing stands against it.
 use Rattle.std.proofs.Common.{◌≡◌, ℕ, zero, suc, ◌⊎◌, [], ◌∷◌, inl, inr, sym, Contains, lit<, arith}
-use Rattle.run_stop.specs.Runs.{RecordingAlone}
-use Rattle.run_stop.specs.Ends.{AcceptedGoesOn}
+use Rattle.run_outcome.specs.Runs.{RecordingAlone}
+use Rattle.run_outcome.specs.Ends.{AcceptedGoesOn}
 use Rattle.psr_record.specs.Outcome.{AcceptedIsRecorded}
 
 -- a status that is none of these

@@ -14,13 +14,13 @@ use Rattle.stream_model.specs.Walk.{walk_stop}
 use Rattle.disk_feeder.specs.declared.answers.FeedEnd.{FeedEnd}
 use Rattle.dada_recorder.specs.declared.answers.RecordEnd.{RecordEnd}
 use Rattle.dada_recorder.specs.declared.answers.RecordEnd.TheVariants as recorder
-use Rattle.run_stop.specs.declared.stop.Stop.{Stop}
-use Rattle.run_stop.specs.declared.stop.Stop.TheVariants.{FileFault}
-use Rattle.run_stop.specs.Texts.{status_of}
-use Rattle.run_stop.specs.Conversions.{stop_of_feed, stop_of_recorder}
-use Rattle.run_stop.specs.Runs.{RecordingAlone, CanBegin}
-use Rattle.run_stop.specs.Outcomes.{AllCleared, LeavesFiles, TellsNotes}
-use Rattle.run_stop.specs.Ends.{EndsRun, EndsShort, short_statuses, EndAtStop, EndAfterWhole, RunsThrough, IsLate, end_status}
+use Rattle.run_outcome.specs.declared.stop.Stop.{Stop}
+use Rattle.run_outcome.specs.declared.stop.Stop.TheVariants.{FileFault}
+use Rattle.run_outcome.specs.Texts.{status_of}
+use Rattle.run_outcome.specs.Conversions.{stop_of_feed, stop_of_recorder}
+use Rattle.run_outcome.specs.Runs.{RecordingAlone, CanBegin}
+use Rattle.run_outcome.specs.Outcomes.{AllCleared, LeavesFiles, TellsNotes}
+use Rattle.run_outcome.specs.Ends.{EndsRun, EndsShort, short_statuses, EndAtStop, EndAfterWhole, RunsThrough, IsLate, end_status}
 use Rattle.psr_record.specs.Outcome.{ForRecord, RecordsData, ClearsBlocks, Outcome}
 use Rattle.psr_record.specs.Ends.{stop_of_session, Ends}
 

@@ -5,10 +5,10 @@ use Rattle.psr_base.specs.Told.{InputsSeen}
 use Rattle.psr_base.specs.Made.{FilesSeen}
 use Rattle.ring_ends.specs.declared.finished.Finished.{Finished}
 use Rattle.dada_recorder.specs.declared.answers.RecordEnd.{RecordEnd}
-use Rattle.run_stop.specs.declared.stop.Stop.{Stop}
-use Rattle.run_stop.specs.Conversions.{stop_of_recorder}
-use Rattle.run_stop.specs.Runs.{RecordingAlone}
-use Rattle.run_stop.specs.Ends.{EndsRun, end_status, IsSaid}
+use Rattle.run_outcome.specs.declared.stop.Stop.{Stop}
+use Rattle.run_outcome.specs.Conversions.{stop_of_recorder}
+use Rattle.run_outcome.specs.Runs.{RecordingAlone}
+use Rattle.run_outcome.specs.Ends.{EndsRun, end_status, IsSaid}
 use Rattle.psr_record.specs.Outcome.{RecordsData, ClearsBlocks}
 
 -- the stop of a session: that of its feeder first

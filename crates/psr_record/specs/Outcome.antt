@@ -12,9 +12,9 @@ use Rattle.stream_model.specs.Walk.{FileStream, walk_stop}
 use Rattle.disk_feeder.specs.Plan.{AreTold}
 use Rattle.dada_recorder.specs.declared.answers.RecordEnd.{RecordEnd}
 use Rattle.dada_recorder.specs.declared.answers.RecordEnd.TheVariants.{FileFault}
-use Rattle.run_stop.specs.declared.ran.Ran.{Ran}
-use Rattle.run_stop.specs.Runs.{RecordingAlone, stream_for, ForFiles, CanBegin}
-use Rattle.run_stop.specs.Outcomes.{JudgesWords, ReadsInputs, StopsAtFiles, SealsStream, AllCleared, RecordsFiles, TellsNotes, MadeAll, MadeFront, files_of_data}
+use Rattle.run_outcome.specs.declared.ran.Ran.{Ran}
+use Rattle.run_outcome.specs.Runs.{RecordingAlone, stream_for, ForFiles, CanBegin}
+use Rattle.run_outcome.specs.Outcomes.{JudgesWords, ReadsInputs, StopsAtFiles, SealsStream, AllCleared, RecordsFiles, TellsNotes, MadeAll, MadeFront, files_of_data}
 
 -- P holds of the settings that the words of a recording say and of the files that they name, where all of them are
 -- told

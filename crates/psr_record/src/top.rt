@@ -1,23 +1,23 @@
 // The top call.
 ghost use Rattle.std.specs.Prelude.{◌≡◌, ℕ, Some, None, map, string_bytes};
 ghost use Rattle.disk_feeder.specs.declared.answers.FeedEnd.TheVariants.{ReadFault};
-ghost use Rattle.run_stop.specs.Conversions.{stop_of_feed};
-ghost use Rattle.run_stop.specs.Outcomes.{ReadsNoData, LeavesAtFault, LeavesFiles};
-ghost use Rattle.run_stop.specs.Runs.{RecordingAlone};
+ghost use Rattle.run_outcome.specs.Conversions.{stop_of_feed};
+ghost use Rattle.run_outcome.specs.Outcomes.{ReadsNoData, LeavesAtFault, LeavesFiles};
+ghost use Rattle.run_outcome.specs.Runs.{RecordingAlone};
 ghost use Rattle.psr_record.specs.Outcome.{Outcome};
 ghost use Rattle.psr_record.specs.Ends.{Ends, stop_of_session};
 
+use drive_session::{Found, ProgramEnd, drive};
 use psr_base::{Files, Inputs, Sink};
-use run_stop::{Purpose, Ran, Stop, tell};
+use run_outcome::{Purpose, Ran, Stop, tell};
 use search_session::Gate;
 use search_words::RunSettings;
 use std::alloc::Global;
 use std::sync::Wait;
 use std::thread::Threads;
 use std::time::Clock;
-use whole_run::{Found, ProgramEnd, drive};
 // Laws: they do nothing when they run, and the proofs use what they ensure.
-use run_stop::{end_after_whole, end_at_stop, end_at_words, end_before_session};
+use run_outcome::{end_after_whole, end_at_stop, end_at_words, end_before_session};
 
 /// Records the data of the files that the arguments name in new files. `words` are the program's name and its
 /// arguments. `gate` is called at each turn. Answers the exit status, and what went through the data ring, if there was

@@ -1,7 +1,7 @@
 -- What is accepted is searched: at no other status nothing stands against it.
 use Rattle.std.proofs.Common.{◌≡◌, ℕ, zero, suc, ◌⊎◌, [], ◌∷◌, inl, inr, refl, subst, Contains, lit<, arith}
-use Rattle.run_stop.specs.Runs.{Searching}
-use Rattle.run_stop.specs.Ends.{AcceptedGoesOn}
+use Rattle.run_outcome.specs.Runs.{Searching}
+use Rattle.run_outcome.specs.Ends.{AcceptedGoesOn}
 use Rattle.psr_search.specs.Outcome.{AcceptedIsSearched}
 
 -- P of each status that is none of those which stop a run

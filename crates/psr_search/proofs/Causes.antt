@@ -12,13 +12,13 @@ use Rattle.disk_feeder.specs.Filling.{HoldsAll}
 use Rattle.disk_feeder.specs.Reading.{StopsAtFile}
 use Rattle.disk_feeder.specs.declared.answers.HeaderCause.{HeaderCause}
 use Rattle.disk_feeder.specs.declared.answers.HeaderCause.TheVariants.{Text, Fields}
-use Rattle.run_stop.specs.declared.causes.PlanCause.{PlanCause}
-use Rattle.run_stop.specs.declared.causes.RecordingCause.{RecordingCause}
-use Rattle.run_stop.specs.declared.stop.Stop.{Stop}
-use Rattle.run_stop.specs.declared.stop.Stop.TheVariants.{Header, Plan, Recording}
-use Rattle.run_stop.specs.Texts.{status_of}
-use Rattle.run_stop.specs.Runs.{Task, Searching, stream_for, stop_of_walk, RefusesFirstHeader, RefusesSearch, RefusesToRecord, StopsWalk, HasCandidates}
-use Rattle.run_stop.specs.Ends.{ForRuns, EndsSo, AcceptedGoesOn, TextsAreAnswered, FirstsAreAnswered, StopsAreAnswered}
+use Rattle.run_outcome.specs.declared.causes.PlanCause.{PlanCause}
+use Rattle.run_outcome.specs.declared.causes.RecordingCause.{RecordingCause}
+use Rattle.run_outcome.specs.declared.stop.Stop.{Stop}
+use Rattle.run_outcome.specs.declared.stop.Stop.TheVariants.{Header, Plan, Recording}
+use Rattle.run_outcome.specs.Texts.{status_of}
+use Rattle.run_outcome.specs.Runs.{Task, Searching, stream_for, stop_of_walk, RefusesFirstHeader, RefusesSearch, RefusesToRecord, StopsWalk, HasCandidates}
+use Rattle.run_outcome.specs.Ends.{ForRuns, EndsSo, AcceptedGoesOn, TextsAreAnswered, FirstsAreAnswered, StopsAreAnswered}
 use Rattle.psr_search.specs.Outcome.{Outcome, SearchSeen, IsSearched}
 use Rattle.psr_search.specs.Causes.{Answers, CausesAreAnswered, ToldRoomIsEnough}
 use Rattle.psr_search.proofs.Accepted.{left}

@@ -17,13 +17,13 @@ use Rattle.disk_feeder.specs.declared.answers.FeedEnd.TheVariants as feed
 use Rattle.disk_feeder.specs.Plan.{AreTold}
 use Rattle.dada_recorder.specs.declared.answers.RecordEnd.{RecordEnd}
 use Rattle.dada_recorder.specs.declared.answers.RecordEnd.TheVariants as recorder
-use Rattle.run_stop.specs.declared.stop.Stop.{Stop}
-use Rattle.run_stop.specs.declared.stop.Stop.TheVariants.{Words, Value, Header, Plan, Recording, Memory, ReadFault, Gap, TooLong, TooMany, SinkFault, FileFault}
-use Rattle.run_stop.specs.Texts.{status_of}
-use Rattle.run_stop.specs.Conversions.{stop_of_feed}
-use Rattle.run_stop.specs.Runs.{Searching, stream_for, observed_transfers, CanBegin, HasCandidates}
-use Rattle.run_stop.specs.Outcomes.{AllCleared, LeavesFiles, TellsNotes}
-use Rattle.run_stop.specs.Ends.{EndsRun, EndsShort, short_statuses, EndAtStop, EndAfterWhole, RunsThrough, IsLate, WordsSayOnce, end_status}
+use Rattle.run_outcome.specs.declared.stop.Stop.{Stop}
+use Rattle.run_outcome.specs.declared.stop.Stop.TheVariants.{Words, Value, Header, Plan, Recording, Memory, ReadFault, Gap, TooLong, TooMany, SinkFault, FileFault}
+use Rattle.run_outcome.specs.Texts.{status_of}
+use Rattle.run_outcome.specs.Conversions.{stop_of_feed}
+use Rattle.run_outcome.specs.Runs.{Searching, stream_for, observed_transfers, CanBegin, HasCandidates}
+use Rattle.run_outcome.specs.Outcomes.{AllCleared, LeavesFiles, TellsNotes}
+use Rattle.run_outcome.specs.Ends.{EndsRun, EndsShort, short_statuses, EndAtStop, EndAfterWhole, RunsThrough, IsLate, WordsSayOnce, end_status}
 use Rattle.psr_search.specs.Outcome.{ForSearch, HasText, WritesText, ClearsBlocks, Outcome}
 use Rattle.psr_search.specs.Ends.{Ends, EndsSearch, EndsFed}
 

@@ -23,8 +23,8 @@ use Rattle.stream_model.specs.RecordedLaws.{recorded_of_transfers}
 use Rattle.transfer_text.specs.Text.{transfer_line}
 use Rattle.transfer_text.specs.Searched.{ObservedTransfer, searched_text, candidate_total}
 use Rattle.disk_feeder.specs.Plan.{AreTold}
-use Rattle.run_stop.specs.Runs.{CanSearchFirst, CanRecordFirst, HasCandidates, stream_for, observed_transfers}
-use Rattle.run_stop.specs.Outcomes.{MadeAll, files_of_data}
+use Rattle.run_outcome.specs.Runs.{CanSearchFirst, CanRecordFirst, HasCandidates, stream_for, observed_transfers}
+use Rattle.run_outcome.specs.Outcomes.{MadeAll, files_of_data}
 use Rattle.psr_search.specs.Outcome.{SearchSeen, IsSearched, AcceptedIsSearched}
 use Rattle.psr_search.specs.Causes.{CausesAreAnswered}
 use Rattle.psr_search.specs.RecordedSample.{recording_words, limited_words, first_header, next_header, first_file, next_file, text_of_two, made_files, IsFoundAndMade, BothAreRecorded, BothAreTooMany}

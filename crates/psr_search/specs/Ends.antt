@@ -10,10 +10,10 @@ use Rattle.transfer_text.specs.Searched.{ObservedTransfer, candidate_total, sear
 use Rattle.transfer_text.specs.Found.{HasFew}
 use Rattle.dada_recorder.specs.declared.answers.RecordEnd.{RecordEnd}
 use Rattle.dada_recorder.specs.declared.answers.RecordEnd.TheVariants as recorder
-use Rattle.run_stop.specs.declared.stop.Stop.{Stop}
-use Rattle.run_stop.specs.declared.stop.Stop.TheVariants.{TooMany, SinkFault, FileFault}
-use Rattle.run_stop.specs.Runs.{Searching, HasCandidates}
-use Rattle.run_stop.specs.Ends.{EndsRun, end_status, IsSaid}
+use Rattle.run_outcome.specs.declared.stop.Stop.{Stop}
+use Rattle.run_outcome.specs.declared.stop.Stop.TheVariants.{TooMany, SinkFault, FileFault}
+use Rattle.run_outcome.specs.Runs.{Searching, HasCandidates}
+use Rattle.run_outcome.specs.Ends.{EndsRun, end_status, IsSaid}
 use Rattle.psr_search.specs.Outcome.{ForSearch, WritesText, ClearsBlocks}
 
 -- ---- the text

@@ -12,9 +12,9 @@ use Rattle.disk_feeder.specs.Plan.{AreTold}
 use Rattle.dada_recorder.specs.declared.answers.RecordEnd.{RecordEnd}
 use Rattle.dada_recorder.specs.declared.answers.RecordEnd.TheVariants.{FileFault}
 use Rattle.transfer_text.specs.Searched.{searched_text}
-use Rattle.run_stop.specs.declared.ran.Ran.{Ran}
-use Rattle.run_stop.specs.Runs.{Searching, stream_for, ForFiles, observed_transfers, HasCandidates}
-use Rattle.run_stop.specs.Outcomes.{JudgesWords, ReadsInputs, StopsAtFiles, SealsStream, AllCleared, RecordsFiles, TellsNotes}
+use Rattle.run_outcome.specs.declared.ran.Ran.{Ran}
+use Rattle.run_outcome.specs.Runs.{Searching, stream_for, ForFiles, observed_transfers, HasCandidates}
+use Rattle.run_outcome.specs.Outcomes.{JudgesWords, ReadsInputs, StopsAtFiles, SealsStream, AllCleared, RecordsFiles, TellsNotes}
 
 -- the words say a search that records its data besides
 abbrev pub AsksToRecord : List (List ℕ) → Type 0

@@ -1,13 +1,13 @@
 // A search over objects in memory.
 ghost use Rattle.std.specs.Prelude.{◌≡◌, [], map, string_bytes};
 ghost use Rattle.psr_base.specs.InMemory.{told_of, calls_of, files_seen, sink_seen, IsMaking};
-ghost use Rattle.run_stop.specs.Outcomes.{ReadsNoData, LeavesAtFault, LeavesFiles};
-ghost use Rattle.run_stop.specs.Runs.{Searching};
+ghost use Rattle.run_outcome.specs.Outcomes.{ReadsNoData, LeavesAtFault, LeavesFiles};
+ghost use Rattle.run_outcome.specs.Runs.{Searching};
 ghost use Rattle.psr_search.specs.Outcome.{AsksToRecord, Outcome};
 
 use crate::top::run;
 use psr_base::{MemFiles, MemInputs, MemSink};
-use run_stop::Ran;
+use run_outcome::Ran;
 use search_session::Gate;
 use std::alloc::Global;
 use std::sync::Wait;

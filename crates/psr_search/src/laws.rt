@@ -7,7 +7,7 @@ ghost use Rattle.psr_search.specs.Sample.{SampleIsFound};
 
 use psr_base::Inputs;
 // Laws: they do nothing when they run, and the proofs use what they ensure.
-use run_stop::{accepted_goes_on, firsts_are_answered, stops_are_answered, texts_are_answered};
+use run_outcome::{accepted_goes_on, firsts_are_answered, stops_are_answered, texts_are_answered};
 
 /// If arguments, headers and data are accepted, they are searched, or there is no memory, provided that neither the
 /// inputs nor the output nor the files that are made count a fault.

@@ -1,22 +1,22 @@
 // The top call.
 ghost use Rattle.std.specs.Prelude.{◌≡◌, ℕ, Some, None, map, string_bytes};
-ghost use Rattle.run_stop.specs.Outcomes.{ReadsNoData, LeavesAtFault, LeavesFiles};
-ghost use Rattle.run_stop.specs.Runs.{Searching};
+ghost use Rattle.run_outcome.specs.Outcomes.{ReadsNoData, LeavesAtFault, LeavesFiles};
+ghost use Rattle.run_outcome.specs.Runs.{Searching};
 ghost use Rattle.psr_search.specs.Outcome.{AsksToRecord, Outcome};
 ghost use Rattle.psr_search.specs.Ends.{Ends};
 
 use crate::writing::write_end;
+use drive_session::{ProgramEnd, drive};
 use psr_base::{Files, Inputs, Sink};
-use run_stop::{Purpose, Ran, Stop, tell};
+use run_outcome::{Purpose, Ran, Stop, tell};
 use search_session::Gate;
 use search_words::Settings;
 use std::alloc::Global;
 use std::sync::Wait;
 use std::thread::Threads;
 use std::time::Clock;
-use whole_run::{ProgramEnd, drive};
 // Laws: they do nothing when they run, and the proofs use what they ensure.
-use run_stop::{end_after_whole, end_at_stop, end_at_words, end_before_session, words_say_once};
+use run_outcome::{end_after_whole, end_at_stop, end_at_words, end_before_session, words_say_once};
 
 /// Searches the files that the arguments name for dispersed pulses and folded periods, and writes their text to `out`.
 /// The data are recorded in `files` if the arguments ask for it. `words` are the program's name and its arguments.

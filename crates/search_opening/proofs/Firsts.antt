@@ -25,9 +25,9 @@ use Rattle.disk_feeder.specs.Front.{BreaksAt}
 use Rattle.disk_feeder.specs.History.{firsts_read, first_of, file_name}
 use Rattle.disk_feeder.specs.Sources as sources
 use Rattle.disk_feeder.specs.Sources.{plan_of}
-use Rattle.run_stop.specs.declared.stop.Stop.TheVariants.{Memory, ReadFault}
-use Rattle.run_stop.specs.Conversions.{stop_of_begin, stop_of_fields}
-use Rattle.run_stop.specs.Firsts.{first_file, first_at, first_name, HasHeader, HaveHeaders, ReadsFirsts, RefusesTextAt, RefusesFields, RefusesFieldsAt, BreaksFirstAt, RefusesFirstFields}
+use Rattle.run_outcome.specs.declared.stop.Stop.TheVariants.{Memory, ReadFault}
+use Rattle.run_outcome.specs.Conversions.{stop_of_begin, stop_of_fields}
+use Rattle.run_outcome.specs.Firsts.{first_file, first_at, first_name, HasHeader, HaveHeaders, ReadsFirsts, RefusesTextAt, RefusesFields, RefusesFieldsAt, BreaksFirstAt, RefusesFirstFields}
 use Rattle.search_opening.specs.First.{OfFirsts, ComesFirst, StopsFirsts, AreFirsts, AreFirstsAt, AreHeadersOf, AreObserved}
 use Rattle.search_opening.proofs.Observed.{as_many, some_at, accepted_at}
 

@@ -11,8 +11,8 @@ use Rattle.stream_model.specs.WalkLaws.{IsAccepted}
 use Rattle.stream_model.specs.Recorded.{record_refusal}
 use Rattle.search_model.specs.Plan.{plan_refusal}
 use Rattle.obs_plan.specs.declared.fault.ObsFault.{ObsFault}
-use Rattle.run_stop.specs.declared.causes.PlanCause.{PlanCause}
-use Rattle.run_stop.specs.declared.causes.RecordingCause.{RecordingCause}
+use Rattle.run_outcome.specs.declared.causes.PlanCause.{PlanCause}
+use Rattle.run_outcome.specs.declared.causes.RecordingCause.{RecordingCause}
 use Rattle.disk_feeder.specs.declared.answers.HeaderCause.TheVariants.{Text, Fields}
 use Rattle.disk_feeder.specs.declared.feeder.Feeder.{Feeder}
 use Rattle.disk_feeder.specs.declared.place.Place.{Place}
@@ -22,10 +22,10 @@ use Rattle.disk_feeder.specs.Filling.{HoldsAll}
 use Rattle.disk_feeder.specs.History.{file_name}
 use Rattle.disk_feeder.specs.Plan.{Plan as FeedPlan, stream_of, AreTold, AreToldAt, IsFirstFile}
 use Rattle.disk_feeder.specs.Reading.{NoStopBefore}
-use Rattle.run_stop.specs.declared.stop.Stop.{Stop}
-use Rattle.run_stop.specs.declared.stop.Stop.TheVariants.{Words, Value, Header, Plan, Recording, Memory, ReadFault, Gap, TooLong, TooMany, SinkFault, FileFault}
-use Rattle.run_stop.specs.Firsts.{first_name, EachFirst, HasHeader, RefusesFields, RefusesFieldsAt, RefusesFirstFields}
-use Rattle.run_stop.specs.Runs.{Task, SettingsFor, IfSearch, CanSearch, CanRecord, CanBegin, recording_of, IsPlanCause, IsRecordingCause, RefusesSearch, RefusesSearchAt, RefusesToRecord, RefusesRecordingAt, stream_for}
+use Rattle.run_outcome.specs.declared.stop.Stop.{Stop}
+use Rattle.run_outcome.specs.declared.stop.Stop.TheVariants.{Words, Value, Header, Plan, Recording, Memory, ReadFault, Gap, TooLong, TooMany, SinkFault, FileFault}
+use Rattle.run_outcome.specs.Firsts.{first_name, EachFirst, HasHeader, RefusesFields, RefusesFieldsAt, RefusesFirstFields}
+use Rattle.run_outcome.specs.Runs.{Task, SettingsFor, IfSearch, CanSearch, CanRecord, CanBegin, recording_of, IsPlanCause, IsRecordingCause, RefusesSearch, RefusesSearchAt, RefusesToRecord, RefusesRecordingAt, stream_for}
 use Rattle.search_opening.specs.Early.{SaysEarly, StopsEarly}
 use Rattle.search_opening.specs.Ended.{CutsStayTold, FirstsStayTold}
 use Rattle.search_opening.proofs.Purposes.{if_search}

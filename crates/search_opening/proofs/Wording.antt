@@ -18,12 +18,12 @@ use Rattle.disk_feeder.specs.Plan.{Plan, AreToldAt, IsFirstFile, IsAmong, opened
 use Rattle.disk_feeder.specs.Reading.{judged_at}
 use Rattle.search_session.specs.declared.ended.SessionEnd.{SessionEnd}
 use Rattle.search_session.specs.Sessions.{FeedAnswers, data_through}
-use Rattle.run_stop.specs.declared.stop.Stop.{Stop}
-use Rattle.run_stop.specs.declared.stop.Stop.TheVariants.{Words, Value, Header, Plan as Refused, Recording, Memory, ReadFault, Gap, TooLong, TooMany, SinkFault, FileFault}
-use Rattle.run_stop.specs.Ends.{WordsSayOnce, SaysBefore, IsRunFed}
-use Rattle.run_stop.specs.Firsts.{ReadsFirsts, RefusesTextAt, RefusesFieldsAt, BreaksFirstAt, RefusesFirstFields}
-use Rattle.run_stop.specs.Outcomes.{LeavesAtFault, MadeBy, files_of_stream}
-use Rattle.run_stop.specs.Runs.{Task, SettingsFor, IfSearch, Says, ForFilesAt, JudgesFirsts, PassesTo, MayBegin, CanBegin, RefusesSearch, RefusesSearchAt, RefusesToRecord, RefusesRecordingAt, stream_for, plan_for}
+use Rattle.run_outcome.specs.declared.stop.Stop.{Stop}
+use Rattle.run_outcome.specs.declared.stop.Stop.TheVariants.{Words, Value, Header, Plan as Refused, Recording, Memory, ReadFault, Gap, TooLong, TooMany, SinkFault, FileFault}
+use Rattle.run_outcome.specs.Ends.{WordsSayOnce, SaysBefore, IsRunFed}
+use Rattle.run_outcome.specs.Firsts.{ReadsFirsts, RefusesTextAt, RefusesFieldsAt, BreaksFirstAt, RefusesFirstFields}
+use Rattle.run_outcome.specs.Outcomes.{LeavesAtFault, MadeBy, files_of_stream}
+use Rattle.run_outcome.specs.Runs.{Task, SettingsFor, IfSearch, Says, ForFilesAt, JudgesFirsts, PassesTo, MayBegin, CanBegin, RefusesSearch, RefusesSearchAt, RefusesToRecord, RefusesRecordingAt, stream_for, plan_for}
 use Rattle.search_opening.specs.Early.{SaysEarly}
 use Rattle.search_opening.specs.Ended.{EarlyStopsAreSaid, EarlyStopsLeave, HasReadSince, SessionsFeedFiles, RecordingsAreSaid}
 use Rattle.search_opening.specs.Settings.{OfRunAt, OfRunTo, JudgesRun, BeginsRun, PassesRunTo, ForWords}

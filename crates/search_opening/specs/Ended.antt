@@ -22,11 +22,11 @@ use Rattle.dada_recorder.specs.declared.answers.RecordEnd.{RecordEnd}
 use Rattle.dada_recorder.specs.declared.answers.RecordEnd.TheVariants.{FileFault}
 use Rattle.search_session.specs.declared.ended.SessionEnd.{SessionEnd}
 use Rattle.search_session.specs.Sessions.{FeedAnswers}
-use Rattle.run_stop.specs.declared.stop.Stop.{Stop}
-use Rattle.run_stop.specs.declared.stop.Stop.TheVariants.{Memory, ReadFault as FailedRead}
-use Rattle.run_stop.specs.Runs.{Task, SettingsFor}
-use Rattle.run_stop.specs.Ends.{StopsBefore, IsRunFed, EndsAsFed, IsRecorded}
-use Rattle.run_stop.specs.Outcomes.{ReadsNoData, LeavesAtFault, MadeBy, files_of_stream}
+use Rattle.run_outcome.specs.declared.stop.Stop.{Stop}
+use Rattle.run_outcome.specs.declared.stop.Stop.TheVariants.{Memory, ReadFault as FailedRead}
+use Rattle.run_outcome.specs.Runs.{Task, SettingsFor}
+use Rattle.run_outcome.specs.Ends.{StopsBefore, IsRunFed, EndsAsFed, IsRecorded}
+use Rattle.run_outcome.specs.Outcomes.{ReadsNoData, LeavesAtFault, MadeBy, files_of_stream}
 use Rattle.search_opening.specs.Early.{StopsEarly, LeavesEarly}
 use Rattle.search_opening.specs.Settings.{ForWords, OfRun, OfRunFirsts, BeginsRun}
 

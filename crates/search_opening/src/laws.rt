@@ -5,7 +5,7 @@ ghost use Rattle.search_opening.specs.Ended.{CutsStayTold, EarlyStopsAreSaid, Ea
 
 use psr_base::Inputs;
 // A law: it does nothing when it runs, and the proofs use what it ensures.
-use run_stop::words_say_once;
+use run_outcome::words_say_once;
 
 /// Law: what a stop before the session tells of the files holds as long as the known bytes of these files stay the
 /// same.

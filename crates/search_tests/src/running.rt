@@ -3,7 +3,7 @@ use dada_recorder::RecordEnd;
 use psr_base::{MemFiles, MemInputs, MemSink};
 use psr_record::run_record;
 use psr_search::run_in_memory;
-use run_stop::Ran;
+use run_outcome::Ran;
 use search_session::Gate;
 use std::alloc::Global;
 use std::sync::Wait;

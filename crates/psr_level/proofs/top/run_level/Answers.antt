@@ -1,7 +1,7 @@
 use Rattle.std.proofs.Common.{◌≡◌, ℕ, ◌∙◌, sym, ap, subst, arith}
-use Rattle.run_stop.specs.declared.stop.Stop.{Stop}
-use Rattle.run_stop.specs.declared.stop.Stop.TheVariants.{Words, Value, Header, Plan, Recording, Memory, ReadFault, Gap, TooLong, TooMany, SinkFault, FileFault}
-use Rattle.run_stop.specs.Texts.{status_of}
+use Rattle.run_outcome.specs.declared.stop.Stop.{Stop}
+use Rattle.run_outcome.specs.declared.stop.Stop.TheVariants.{Words, Value, Header, Plan, Recording, Memory, ReadFault, Gap, TooLong, TooMany, SinkFault, FileFault}
+use Rattle.run_outcome.specs.Texts.{status_of}
 use Rattle.psr_level.specs.declared.stop.LevelStop.{LevelStop}
 use Rattle.psr_level.specs.declared.stop.LevelStop.TheVariants as stops
 use Rattle.psr_level.specs.Complete.{IsComplete}

@@ -1,7 +1,7 @@
 use Rattle.std.proofs.Common.{◌≡◌, Some, refl, ap}
-use Rattle.run_stop.specs.declared.stop.Stop.{Stop}
-use Rattle.run_stop.specs.declared.stop.Stop.TheVariants.{ReadFault}
-use Rattle.run_stop.specs.Conversions.{stop_of_feed}
+use Rattle.run_outcome.specs.declared.stop.Stop.{Stop}
+use Rattle.run_outcome.specs.declared.stop.Stop.TheVariants.{ReadFault}
+use Rattle.run_outcome.specs.Conversions.{stop_of_feed}
 use Rattle.psr_record.proofs.Endings.{records, at_once, after_session, stand, leaves_closed}
 use Rattle.psr_record.proofs.top.record_files.Goals as goal
 
