@@ -232,12 +232,13 @@ module _ (own : ℕ) (lone : LoneSearch) (words : List (List ℕ)) (inputs : Inp
 
   -- ---- after the session
 
-  none_recorded : (s : SettingsSeen) (blocks : Finished) → WordsSayOnce → SayAlone lone words s →
-      IsRecorded (Alone lone) words inputs.told blocks None no_files no_files
-  none_recorded s blocks once says = record {
-    unrecorded = λ t said off. (refl, λ e. cc);
-    all = λ e t files said are on. let off = said.search.one.unrecorded in absurd cc;
-    front = λ e. absurd cc;
+  none_recorded : (blocks : Finished) (end : FeedEnd) →
+      IsRecorded (Alone lone) words inputs.told blocks end None no_files no_files
+  none_recorded blocks end = record {
+    unrecorded = λ t said off. (refl, refl);
+    ended = λ t said on. let off = said.search.one.unrecorded in absurd cc;
+    as_fed = λ e is. absurd cc;
+    made = λ e is. absurd cc;
     rose = λ e. absurd cc;
     quiet = λ e. refl;
     count = omega arith;
@@ -251,7 +252,7 @@ module _ (own : ℕ) (lone : LoneSearch) (words : List (List ℕ)) (inputs : Inp
     through_of calm end no_fault through = record {
       says = through.says;
       fed = through.fed;
-      recorded = none_recorded s blocks once through.says;
+      recorded = none_recorded blocks end;
       read = record {
         rose = λ f. absurd (no_fault f);
         quiet = through.read.quiet;
