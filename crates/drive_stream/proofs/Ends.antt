@@ -55,20 +55,10 @@ pub failed_reading : {F : Type 0} (end : FeedEnd) (ending : Ending F) (stop : Op
 failed_reading ReadFault ending stop is failed = refl
 failed_reading (Whole bytes) All stop is failed = absurd cc
 failed_reading (Whole bytes) (Refused refusal) stop is failed = absurd cc
-failed_reading (Whole bytes) Early stop is failed = absurd is
-failed_reading (Whole bytes) (Failed phase) stop is failed = absurd is
-failed_reading (BadHeader file cause) All stop is failed = absurd is
-failed_reading (BadHeader file cause) (Refused refusal) stop is failed = absurd is
 failed_reading (BadHeader file cause) Early stop is failed = absurd cc
-failed_reading (BadHeader file cause) (Failed phase) stop is failed = absurd is
-failed_reading (Gap file expected found) All stop is failed = absurd is
-failed_reading (Gap file expected found) (Refused refusal) stop is failed = absurd is
 failed_reading (Gap file expected found) Early stop is failed = absurd cc
-failed_reading (Gap file expected found) (Failed phase) stop is failed = absurd is
-failed_reading (TooLong limit) All stop is failed = absurd is
-failed_reading (TooLong limit) (Refused refusal) stop is failed = absurd is
 failed_reading (TooLong limit) Early stop is failed = absurd cc
-failed_reading (TooLong limit) (Failed phase) stop is failed = absurd is
+failed_reading end ending stop is failed = absurd is
 
 pub says_failed : {F : Type 0} (end : FeedEnd) (ending : Ending F) (stop : Option (StreamStop F)) →
     IsStopOf end ending stop → end ≡ ReadFault → stop ≡ Some (Run halts.ReadFault)
@@ -86,54 +76,26 @@ says_failed (TooLong limit) ending stop is failed = absurd cc
 -- and it never says that there was no memory
 pub no_memory : {F : Type 0} (end : FeedEnd) (ending : Ending F) (stop : Option (StreamStop F)) →
     IsStopOf end ending stop → stop ≡ Some (Run halts.Memory) → ⊥
-no_memory ReadFault All stop is failed = absurd is
-no_memory ReadFault (Refused refusal) stop is failed = absurd is
 no_memory ReadFault Early stop is failed = absurd cc
-no_memory ReadFault (Failed Midway) stop is failed = absurd is
-no_memory ReadFault (Failed AtEnd) stop is failed = absurd is
 no_memory ReadFault (Failed AtStop) stop is failed = absurd cc
 no_memory (Whole bytes) All stop is failed = absurd cc
 no_memory (Whole bytes) (Refused refusal) stop is failed = absurd cc
-no_memory (Whole bytes) Early stop is failed = absurd is
-no_memory (Whole bytes) (Failed phase) stop is failed = absurd is
-no_memory (BadHeader file cause) All stop is failed = absurd is
-no_memory (BadHeader file cause) (Refused refusal) stop is failed = absurd is
 no_memory (BadHeader file cause) Early stop is failed = absurd cc
-no_memory (BadHeader file cause) (Failed phase) stop is failed = absurd is
-no_memory (Gap file expected found) All stop is failed = absurd is
-no_memory (Gap file expected found) (Refused refusal) stop is failed = absurd is
 no_memory (Gap file expected found) Early stop is failed = absurd cc
-no_memory (Gap file expected found) (Failed phase) stop is failed = absurd is
-no_memory (TooLong limit) All stop is failed = absurd is
-no_memory (TooLong limit) (Refused refusal) stop is failed = absurd is
 no_memory (TooLong limit) Early stop is failed = absurd cc
-no_memory (TooLong limit) (Failed phase) stop is failed = absurd is
+no_memory end ending stop is failed = absurd is
 
 -- the program refuses data at their end alone
 refused_at_end : {F : Type 0} (end : FeedEnd) (ending : Ending F) (stop : Option (StreamStop F)) (refusal : F) →
     IsStopOf end ending stop → stop ≡ Some (stops.Refused refusal) → ending ≡ Refused refusal
 refused_at_end (Whole bytes) All stop refusal is refused = absurd cc
 refused_at_end (Whole bytes) (Refused other) stop refusal is refused = cc
-refused_at_end (Whole bytes) Early stop refusal is refused = absurd is
-refused_at_end (Whole bytes) (Failed phase) stop refusal is refused = absurd is
-refused_at_end ReadFault All stop refusal is refused = absurd is
-refused_at_end ReadFault (Refused other) stop refusal is refused = absurd is
 refused_at_end ReadFault Early stop refusal is refused = absurd cc
-refused_at_end ReadFault (Failed Midway) stop refusal is refused = absurd is
-refused_at_end ReadFault (Failed AtEnd) stop refusal is refused = absurd is
 refused_at_end ReadFault (Failed AtStop) stop refusal is refused = absurd cc
-refused_at_end (BadHeader file cause) All stop refusal is refused = absurd is
-refused_at_end (BadHeader file cause) (Refused other) stop refusal is refused = absurd is
 refused_at_end (BadHeader file cause) Early stop refusal is refused = absurd cc
-refused_at_end (BadHeader file cause) (Failed phase) stop refusal is refused = absurd is
-refused_at_end (Gap file expected found) All stop refusal is refused = absurd is
-refused_at_end (Gap file expected found) (Refused other) stop refusal is refused = absurd is
 refused_at_end (Gap file expected found) Early stop refusal is refused = absurd cc
-refused_at_end (Gap file expected found) (Failed phase) stop refusal is refused = absurd is
-refused_at_end (TooLong limit) All stop refusal is refused = absurd is
-refused_at_end (TooLong limit) (Refused other) stop refusal is refused = absurd is
 refused_at_end (TooLong limit) Early stop refusal is refused = absurd cc
-refused_at_end (TooLong limit) (Failed phase) stop refusal is refused = absurd is
+refused_at_end end ending stop refusal is refused = absurd is
 
 -- ---- the end of a feeder
 
@@ -146,20 +108,14 @@ ended_as s told headers blocks end (Some other) is feeds =
 limit_is : (plan : Plan) (size : ℕ) (before : List (List ℕ)) (current : List ℕ) (headers blocks : List Entry)
     (end : FeedEnd) → SealedAs plan size before current headers blocks end → (limit : ℕ) → end ≡ TooLong limit →
     limit ≡ plan.max_bytes
-limit_is plan size before current headers blocks (Whole bytes) sealed limit is = absurd cc
-limit_is plan size before current headers blocks ReadFault sealed limit is = absurd cc
-limit_is plan size before current headers blocks (BadHeader file cause) sealed limit is = absurd cc
-limit_is plan size before current headers blocks (Gap file expected found) sealed limit is = absurd cc
 limit_is plan size before current headers blocks (TooLong other) sealed limit is =
     let same : other ≡ limit = cc in sym same ∙ sealed.3
+limit_is plan size before current headers blocks end sealed limit is = absurd cc
 
 pub whole_stop : (bytes : ℕ) (stop : walk.WalkStop) (count most : ℕ) → Whole bytes ≡ end_of count most stop →
     stop ≡ walk.Whole
 whole_stop bytes walk.Whole count most is = refl
-whole_stop bytes (walk.BadText file refusal) count most is = absurd cc
-whole_stop bytes (walk.BadFields file fault) count most is = absurd cc
-whole_stop bytes (walk.Gap file expected found) count most is = absurd cc
-whole_stop bytes (walk.TooLong file) count most is = absurd cc
+whole_stop bytes stop count most is = absurd cc
 
 -- ---- one transfer
 

@@ -416,15 +416,13 @@ module _ {I : Type 0} (told : I → Told) (is_calm : I → Type 0) (faults : I �
       at_data first r = by_slot (get_or ends r.beam None) r.is
         where
           by_end : (e : FeedEnd) → stop_at_data r.beam e ≡ Some first → EndsAt (Some first)
-          by_end (feed.Whole bytes) is = absurd cc
           by_end feed.ReadFault is =
               let eq = is_first ReadFault first is in
               subst (λ x. EndsAt (Some x)) eq (at_fault (subst (λ x. StopsBy stop_at_data ends x) (sym eq) r))
-          by_end (feed.BadHeader file cause) is = absurd cc
-          by_end (feed.Gap file expected found) is = absurd cc
           by_end (feed.TooLong limit) is =
               let eq = is_first (TooLong limit) first is in
               subst (λ x. EndsAt (Some x)) eq (at_long limit (subst (λ x. StopsBy stop_at_data ends x) (sym eq) r))
+          by_end e is = absurd cc
 
           by_slot : (slot : Option BeamEnd) → slot_stop stop_at_data r.beam slot ≡ Some first → EndsAt (Some first)
           by_slot None is = absurd cc
@@ -436,14 +434,12 @@ module _ {I : Type 0} (told : I → Told) (is_calm : I → Type 0) (faults : I �
       at_head none first r = by_slot (get_or ends r.beam None) r.is
         where
           by_end : (e : FeedEnd) → stop_at_header r.beam e ≡ Some first → EndsAt (Some first)
-          by_end (feed.Whole bytes) is = absurd cc
-          by_end feed.ReadFault is = absurd cc
           by_end (feed.BadHeader file cause) is =
               subst (λ x. EndsAt (Some x)) (is_first (Header r.beam cause) first is) (at_header none cause first r)
           by_end (feed.Gap file expected found) is =
               subst (λ x. EndsAt (Some x)) (is_first (Gap r.beam expected found) first is)
               (at_gap none expected found first r)
-          by_end (feed.TooLong limit) is = absurd cc
+          by_end e is = absurd cc
 
           by_slot : (slot : Option BeamEnd) → slot_stop stop_at_header r.beam slot ≡ Some first → EndsAt (Some first)
           by_slot None is = absurd cc

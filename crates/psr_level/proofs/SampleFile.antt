@@ -164,14 +164,8 @@ whole = refl
 -- no field of the header gets another number
 no_number : (k : ℕ) → k < 7 → new_number settings.options observation header (get_or all_fields k Tsamp) ≡ None
 unfolding settings observation header fields_of words_of without_comment is_white value_of number_value
-no_number zero below = refl
-no_number (suc zero) below = refl
-no_number (suc (suc zero)) below = refl
-no_number (suc (suc (suc zero))) below = refl
-no_number (suc (suc (suc (suc zero)))) below = refl
-no_number (suc (suc (suc (suc (suc zero))))) below = refl
-no_number (suc (suc (suc (suc (suc (suc zero)))))) below = refl
 no_number (suc (suc (suc (suc (suc (suc (suc k))))))) below = absurd (omega (arith, below))
+no_number k below = refl
 
 never : (number : Option ℕ) (n : ℕ) → number ≡ None → number ≡ Some n → ⊥
 never number n none some = absurd cc

@@ -143,10 +143,9 @@ leaves_at_check told words is_calm word old new seen f stop is same none front b
 
 to_memory : (stop : Option (StreamStop LiveRefusal)) → stop_of_stream stop ≡ Some (Run Memory) →
     stop ≡ Some (streamed.Run Memory)
-to_memory None is = absurd cc
 to_memory (Some (streamed.Run stop)) is = cc
 to_memory (Some (streamed.Refused (refusals.Plan cause))) is = absurd cc
-to_memory (Some (streamed.Refused (refusals.Beyond place spectra))) is = absurd cc
+to_memory stop is = absurd cc
 
 module _ (s : SettingsSeen) (calm calm' : Type 0) (stays : calm → calm') (before after : Told) where
   first_stays : BreaksFirstAt s.names s.starts calm' before after → BreaksFirstAt s.names s.starts calm before after
@@ -225,11 +224,9 @@ module _ (words : List (List ℕ)) (s : SettingsSeen) (says : SayLive words s) (
 
   at_end : (refusal : CheckpointRefusal) → (end : Option (StreamStop LiveRefusal)) →
       stop_of_stream end ≡ Some (Refused refusal) → ReadsRefused words old new refusal
-  at_end refusal None is = absurd cc
-  at_end refusal (Some (streamed.Run end)) is = absurd cc
-  at_end refusal (Some (streamed.Refused (refusals.Plan cause))) is = absurd cc
   at_end refusal (Some (streamed.Refused (refusals.Beyond place spectra))) is =
       let e : refusal ≡ check_refusal.Beyond place spectra = cc in subst (ReadsRefused words old new) (sym e) tt
+  at_end refusal end is = absurd cc
 
   pub leaves_streamed : (result : Option PartStop) → result ≡ stop_of_stream stop →
       LeavesFiles words calm old new before after result

@@ -116,10 +116,9 @@ module _ {I : Type 0} (told : I → Told) (is_calm : I → Type 0) (faults : I �
 
 pub to_stream : (stop : Option (StreamStop LiveRefusal)) → stop_of_stream stop ≡ Some (Run ReadFault) →
     stop ≡ Some (streamed.Run ReadFault)
-to_stream None is = absurd cc
 to_stream (Some (streamed.Run stop)) is = cc
 to_stream (Some (streamed.Refused (refusal.Plan cause))) is = absurd cc
-to_stream (Some (streamed.Refused (refusal.Beyond place spectra))) is = absurd cc
+to_stream stop is = absurd cc
 
 -- the laws of a run, of this one
 module _ (s : SettingsSeen) (range : RunInRange (with_search tt s)) (one : length s.starts ≡ 1)
