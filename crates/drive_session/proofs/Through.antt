@@ -334,9 +334,10 @@ goes_with {I} {F} blocks totals stay said told is_open is_calm faults files_open
       recorded = said task s (told before) (told feeder.inputs.now) found.blocks found.feed found.recorded
           (seen r.files.now) (seen after) read.names
           (records_found s (told feeder.inputs.now) observations end found (seen r.files.now) (seen after) is
-          (subst (λ a. Records a after) (sym by.is) (subst (λ files. Records (Some by.answer) files) (sym made) (records_run blocks told
-          is_open files_open seen task s offsets feeder observations.items stage r (length banks) end ready recordable
-          by))));
+          (subst (λ a. Records a after) (sym by.is)
+          (subst (λ files. Records (Some by.answer) files) (sym made)
+          (records_run blocks told is_open files_open seen task s offsets feeder observations.items stage r
+          (length banks) end ready recordable by))));
       stands = λ not. absurd (true≢false (sym ready.records ∙ not));
       closed = λ fine shut. subst (λ (files : F). ¬ files_open files) (sym made) (by.closed (no_fault fine));
       cleared = clears_found task s observations.items banks end found are shards.cleared

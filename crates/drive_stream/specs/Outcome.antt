@@ -144,11 +144,11 @@ EndsStream block takes refuses leaves s told before after stop =
 
 -- A fault of the inputs came while data were read, at this place, whose file is there. No file before that one stops
 -- the walk, each by the files up to it. By those that were opened, nothing that was read does, and the full blocks of
--- this size are those of the data bytes that were read. Where the file at the place is told too, and the first one, it
--- was not opened or its header isn't judged, or it was read up to the place. Whether or not it is told, the full blocks
--- are those of data that begin with the data of the files before it, as far as these are told; and where the first one is
--- told too, these files were read to their ends before anything else. Calm inputs could not open it, since it isn't told:
--- where those before it are, and the first one, nothing else was read.
+-- this size are those of the data bytes that were read. Where the file at the place is told too, and the first one,
+-- it was not opened or its header isn't judged, or it was read up to the place. Whether or not it is told, the full
+-- blocks are those of data that begin with the data of the files before it, as far as these are told; and where the
+-- first one is told too, these files were read to their ends before anything else. Calm inputs could not open it,
+-- since it isn't told: where those before it are, and the first one, nothing else was read.
 pub record BreaksData (s : RunSeen) (is_calm : Type 0) (before after : Told) (at : Place) (size : ℕ)
     (blocks : List Entry) : Type 0 where
   pub there : at.file < length s.names

@@ -135,8 +135,8 @@ module _ (words : List (List ℕ)) (inputs : InputsSeen) (is_calm : Type 0) (fil
         stop ≡ stop_of_session (stop_of_feed end) recorded →
         Ends words inputs is_calm files_before files_after stop (Some blocks) recorded
     after_session stops wholes stop is =
-        subst (λ (x : Option Stop). Ends words inputs is_calm files_before files_after x (Some blocks) recorded) (sym is)
-        (by_feed stops wholes (stop_of_feed end) refl)
+        subst (λ (x : Option Stop). Ends words inputs is_calm files_before files_after x (Some blocks) recorded)
+        (sym is) (by_feed stops wholes (stop_of_feed end) refl)
 
 -- ---- with the notes
 

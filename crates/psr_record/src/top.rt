@@ -21,8 +21,8 @@ use run_outcome::{end_after_whole, end_at_stop, end_at_words, end_before_session
 
 /// Records the data of the files that the arguments name in new files. `words` are the program's name and its
 /// arguments. `gate` is called at each turn. Answers the exit status, and what went through the data ring, if there was
-/// one; if the status isn't 0, a line to `notes` says why. `recorded` of the answer says how the recorder ended, also if
-/// the status names another cause. A fault of `notes` changes nothing. It may not end.
+/// one; if the status isn't 0, a line to `notes` says why. `recorded` of the answer says how the recorder ended, also
+/// if the status names another cause. A fault of `notes` changes nothing. It may not end.
 pub fn run_record<
     I: Inputs + Send,
     F: Files + Send,

@@ -210,7 +210,8 @@ module _ (words : List (List ℕ)) (inputs : InputsSeen) (is_calm : Type 0) (fil
 
       crowded : (before after : SinkSeen) (n limit : ℕ) → candidate_total s0.search transfers ≡ n →
           limit ≡ s0.search.max_candidates → limit < n → after ≡ before →
-          Ends words inputs is_calm files_before files_after before after (Some (TooMany n limit)) (Some blocks) recorded
+          Ends words inputs is_calm files_before files_after before after (Some (TooMany n limit)) (Some blocks)
+          recorded
       crowded before after n limit total most many same =
           let at : IsLate recorded 9 = record {
             known = (1, lit< tt, refl);
@@ -273,7 +274,8 @@ module _ (words : List (List ℕ)) (inputs : InputsSeen) (is_calm : Type 0) (fil
         let e =
         stops Searching words s0 inputs blocks end recorded files_before files_after fed through is in
         let two = subst (λ (x : Option Stop). IfSome x (λ f. (stop ≡ Some f) × (after ≡ before))) is stopped in
-        subst (λ (x : Option Stop). Ends words inputs is_calm files_before files_after before after x (Some blocks) recorded)
+        subst (λ (x : Option Stop).
+        Ends words inputs is_calm files_before files_after before after x (Some blocks) recorded)
         (sym two.0) (at_short (Some blocks) recorded fed before after e clears two.1)
     after_session stops wholes before after stop stopped found None is =
         let w = whole_is end is in

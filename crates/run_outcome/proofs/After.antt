@@ -105,7 +105,8 @@ module _ (task : Task) (words : List (List ℕ)) (told : Told) (blocks : Finishe
   there_is (Some end) some = (end, refl)
 
   -- at 0 it ended with all data
-  all_made : (end : RecordEnd) (files : List NamedBytes) (n : ℕ) → n ≡ 0 → CanEndAt end n → MadeBy end files before after →
+  all_made : (end : RecordEnd) (files : List NamedBytes) (n : ℕ) → n ≡ 0 → CanEndAt end n →
+      MadeBy end files before after →
       (end ≡ recorder.Whole (length files)) × MadeAll files before after
   all_made (recorder.Whole count) files n zeroth can made = (ap (λ k. recorder.Whole k) made.0, made.1)
   all_made (recorder.Cut count) files n zeroth can made = absurd (not_cut n can zeroth)

@@ -197,8 +197,8 @@ MadeBy recorder.FileFault files before after = MadeFront files before after
 MadeBy (recorder.BadHeader fault) files before after = ⊥
 MadeBy (recorder.TooLong limit) files before after = ⊥
 
--- The statuses at which a recorder can have ended so: with all data if these were all sealed, cut if the stream was given
--- up, and with a fault at each of these but 0; 11 says that fault itself.
+-- The statuses at which a recorder can have ended so: with all data if these were all sealed, cut if the stream was
+-- given up, and with a fault at each of these but 0; 11 says that fault itself.
 abbrev pub CanEndAt : RecordEnd → ℕ → Type 0
 CanEndAt (recorder.Whole count) status = Contains (0 ∷ 9 ∷ 10 ∷ []) status
 CanEndAt (recorder.Cut count) status = Contains (3 ∷ 6 ∷ 7 ∷ 8 ∷ []) status
@@ -206,10 +206,10 @@ CanEndAt recorder.FileFault status = Contains (3 ∷ 6 ∷ 7 ∷ 8 ∷ 9 ∷ 10 
 CanEndAt (recorder.BadHeader fault) status = ⊥
 CanEndAt (recorder.TooLong limit) status = ⊥
 
--- How the recorder of a run ended, and what it made. Before the session, and where nothing is recorded, there is none, and
--- the files stand; else there is one, at each status. At 0 it made the files of all data, and at 11, which comes only if
--- it ended with a fault, a front of those. By the first files alone, it made those of the stream that went through, or a
--- front of them if it ended with a fault. The count of faults rose exactly then.
+-- How the recorder of a run ended, and what it made. Before the session, and where nothing is recorded, there is none,
+-- and the files stand; else there is one, at each status. At 0 it made the files of all data, and at 11, which comes
+-- only if it ended with a fault, a front of those. By the first files alone, it made those of the stream that went
+-- through, or a front of them if it ended with a fault. The count of faults rose exactly then.
 pub record RecordsFiles
     (task : Task) (words : List (List ℕ)) (told : Told) (blocks : Option Finished)
     (recorded : Option RecordEnd) (before after : FilesSeen) (status : ℕ) : Type 0 where
@@ -233,8 +233,8 @@ pub record RecordsFiles
   pub count : before.faults ≤ after.faults
 
 -- What a run leaves of the files that it was lent. Before the session, and where nothing is recorded, they stand. If no
--- file was open before, none is open at 0, nor at any other status if no call on the files failed; nor is one unless the
--- recorder ended with a fault. In this: whether a file is open, and what files show.
+-- file was open before, none is open at 0, nor at any other status if no call on the files failed; nor at any status
+-- unless the recorder ended with a fault. In this: whether a file is open, and what files show.
 pub record LeavesFiles {F : Type 0}
     (task : Task) (words : List (List ℕ)) (files_open : F → Type 0) (seen : F → FilesSeen)
     (before after : F) (blocks : Option Finished) (recorded : Option RecordEnd) (status : ℕ)

@@ -45,8 +45,8 @@ firsts_stay names starts old new files same are =
     still_told (IsFirstFile starts (length names)) old new names files same are
 
 -- what was sealed at a fault is so whatever the first headers are
-with_headers : (names : List (List ℕ)) (starts : List ℕ) (limit : ℕ) (plan plan' : FeedPlan) (old new : Told) (at : Place)
-    (size : ℕ) (blocks : List _) → new.bytes_under ≡ old.bytes_under →
+with_headers : (names : List (List ℕ)) (starts : List ℕ) (limit : ℕ) (plan plan' : FeedPlan) (old new : Told)
+    (at : Place) (size : ℕ) (blocks : List _) → new.bytes_under ≡ old.bytes_under →
     IsCutPast (record plan { names = names; starts = starts; max_bytes = limit }) new at size blocks →
     IsCutPast (record plan' { names = names; starts = starts; max_bytes = limit }) old at size blocks
 with_headers names starts limit plan plan' old new at size blocks same cut = record {

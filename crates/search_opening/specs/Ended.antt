@@ -56,8 +56,8 @@ FirstsStayTold = (names : List (List ℕ)) (starts : List ℕ) (old new : Told)
     AreToldAt (IsFirstFile starts (length names)) old names files →
     AreToldAt (IsFirstFile starts (length names)) new names files
 
--- What was sealed at a fault is so for each plan that has the same names, starts and limit, as long as what is told under
--- these names stands.
+-- What was sealed at a fault is so for each plan with the same names, starts and limit, as long as what is told under
+-- the names stands.
 abbrev pub CutsStayTold : Type 0
 CutsStayTold = (plan plan' : Plan) (old new : Told) (at : Place) (size : ℕ) (blocks : List _) →
     plan.names ≡ plan'.names → plan.starts ≡ plan'.starts → plan.max_bytes ≡ plan'.max_bytes →
