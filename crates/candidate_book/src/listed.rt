@@ -6,8 +6,8 @@ ghost use Rattle.candidate_book.specs.Merged.{Listed, WroteLines, WroteText};
 
 use crate::asked::Asked;
 use crate::labels::LineLabels;
-use crate::lines::{candidate_line, end_line};
-use crate::merged::{SinkStop, Totals};
+use crate::lines::candidate_line;
+use crate::merged::{SinkStop, Totals, end_text};
 use crate::page::Page;
 use obs_plan::Observation;
 use psr_base::{Failed, Sink};
@@ -81,8 +81,5 @@ pub fn write_text<K: Sink, L: LineLabels>(
     pieces_join();
     let mut page = Page::new();
     let totals = pass_list(list, obs, labels, &mut page, sink)?;
-    let line = end_line(totals.pulses, totals.folds, spectra);
-    page.push(line.as_bytes(), sink)?;
-    page.flush(sink)?;
-    Ok(totals)
+    end_text(totals, spectra, &mut page, sink)
 }

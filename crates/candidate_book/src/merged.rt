@@ -1,12 +1,14 @@
 // Writing the candidates of several books in one list.
 ghost use Rattle.std.specs.Prelude.{◌≡◌, ◌+◌, ◌<◌, ◌^◌, [], List, if◌then◌else◌};
 ghost use Rattle.search_model.specs.declared.candidate.Candidate.{Candidate};
-ghost use Rattle.search_model.specs.CandidateText.{is_pulse, is_fold};
+ghost use Rattle.psr_base.specs.Written.{SinkSeen};
+ghost use Rattle.search_model.specs.CandidateText.{Labels, candidate_lines, is_pulse, is_fold};
 ghost use Rattle.search_model.specs.Order.{IsMergeOf};
 ghost use Rattle.candidate_book.specs.Conditions.{kept_lists, CanBeMerged};
 ghost use Rattle.search_model.specs.Observed.{labels_of};
 ghost use Rattle.candidate_book.specs.Labelled.{labels_with};
-ghost use Rattle.candidate_book.specs.Merged.{Listed, WroteText};
+ghost use Rattle.candidate_book.specs.Lines.{Pending};
+ghost use Rattle.candidate_book.specs.Merged.{AreTotals, Listed, WroteText};
 
 use crate::asked::Asked;
 use crate::book::Book;
@@ -100,6 +102,25 @@ fn pass_candidates<K: Sink, L: LineLabels>(
     Ok(totals)
 }
 
+/// Writes what waits on the page of the lines of a list with these totals, and then its END line.
+pub(crate) fn end_text<K: Sink>(
+    totals: Totals,
+    spectra: u64,
+    page: &mut Page,
+    sink: &mut K,
+) -> Result<Totals, SinkStop>
+    ensures { (labels : Labels) (list : List Candidate) (first : SinkSeen)
+        → AreTotals list totals
+        → Pending (candidate_lines labels list) page.old first (K.seen sink.old)
+        → WroteText labels spectra list first (K.seen sink.new) result }
+{
+    pieces_join();
+    let line = end_line(totals.pulses, totals.folds, spectra);
+    page.push(line.as_bytes(), sink)?;
+    page.flush(sink)?;
+    Ok(totals)
+}
+
 /// Writes the lines of all candidates that up to 7 books keep, in the order of candidates, and then the END line with
 /// the number of pulses, of folds, and of spectra that were searched. Returns the number of pulses and of folds. After
 /// a fault the sink has taken the front of this output.
@@ -117,8 +138,5 @@ pub fn write_merged<K: Sink>(
     let mut page = Page::new();
     let labels = PlainLabels::of(obs);
     let totals = pass_candidates(books, obs, &labels, &mut page, sink)?;
-    let line = end_line(totals.pulses, totals.folds, spectra);
-    page.push(line.as_bytes(), sink)?;
-    page.flush(sink)?;
-    Ok(totals)
+    end_text(totals, spectra, &mut page, sink)
 }

@@ -12,7 +12,7 @@ use Rattle.dada_recorder.specs.declared.transfers.Transfers.{Transfers}
 use Rattle.dada_recorder.specs.Making.{Outset, HasMade, BeginsAt, left_after, total_bytes}
 use Rattle.dada_recorder.specs.Blocks.{RecordPlan, PlanInRange, files_of_blocks}
 use Rattle.dada_recorder.specs.Recording.{GoesOn, FilesAre}
-use Rattle.dada_recorder.specs.declared.track.Track.{Track}
+use Rattle.dada_recorder.specs.declared.space.RecorderSpace.{RecorderSpace}
 use Rattle.dada_recorder.specs.Transfers.{plan_in, files_of_first, IsRunning, StandsAt}
 
 no_block : (plan : RecordPlan) → PlanInRange plan → GoesOn plan false [] []
@@ -79,8 +79,8 @@ begins_made plan outset is_open end seen begins closed running =
       left = begins.left ∙ nothing_taken outset.left;
     })))
 
-pub stands_fresh : (track : Track) → track.end ≡ None → IsRunning track.transfers [] [] →
-    StandsAt track.transfers [] [] track.end
-stands_fresh track running nothing =
-    let At : Option RecordEnd → Type 0 = λ end. StandsAt track.transfers [] [] end in
+pub stands_fresh : (space : RecorderSpace) → space.end ≡ None → IsRunning space.transfers [] [] →
+    StandsAt space.transfers [] [] space.end
+stands_fresh space running nothing =
+    let At : Option RecordEnd → Type 0 = λ end. StandsAt space.transfers [] [] end in
     subst At (sym running) nothing

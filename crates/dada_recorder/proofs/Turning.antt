@@ -12,13 +12,13 @@ use Rattle.dada_hdu.specs.declared.hdu.Hdu.{Hdu}
 use Rattle.dada_hdu.specs.declared.passes.HduReader.{HduReader}
 use Rattle.dada_hdu.specs.Passes.{ReadsBoth}
 use Rattle.dada_recorder.specs.declared.answers.RecordEnd.{RecordEnd}
-use Rattle.dada_recorder.specs.declared.track.Track.{Track}
+use Rattle.dada_recorder.specs.declared.space.RecorderSpace.{RecorderSpace}
 use Rattle.dada_recorder.specs.declared.transfers.Transfers.{Transfers}
 use Rattle.dada_recorder.specs.Blocks.{files_of_blocks}
 use Rattle.dada_recorder.specs.Making.{Outset, HasMade, IsOpenAs}
 use Rattle.dada_recorder.specs.Recording.{FilesAre}
 use Rattle.dada_recorder.specs.Transfers.{plan_in, IsRunning, StandsAt, EndsClosed, CountsEnd}
-use Rattle.dada_recorder.specs.Tracks.{HasTurned}
+use Rattle.dada_recorder.specs.Spaces.{HasTurned}
 use Rattle.dada_recorder.specs.Turns.{cleared_headers, cleared_blocks}
 
 -- the block that was read is the last that was cleared
@@ -86,10 +86,10 @@ pub files_running : (t : Transfers) (outset : Outset) (headers blocks : List Ent
 files_running t outset headers blocks end seen is files = subst (λ (e : Option RecordEnd). FilesAre (plan_in t) outset
     t.files.place.is_open headers blocks e seen) is files
 
--- the transfers t, and the end that they came to after these blocks, are those of the track
-module _ {F : Type 0} (files_open : F → Type 0) (seen : F → FilesSeen) (hdu : Hdu) (old : Track) (files : F)
-    (pass : HduReader) (new : Track) (files' : F) (pass' : HduReader) (t : Transfers) (headers blocks : List Entry)
-    (end : Option RecordEnd) where
+-- the transfers t, and the end that they came to after these blocks, are those of the space
+module _ {F : Type 0} (files_open : F → Type 0) (seen : F → FilesSeen) (hdu : Hdu) (old : RecorderSpace) (files : F)
+    (pass : HduReader) (new : RecorderSpace) (files' : F) (pass' : HduReader) (t : Transfers)
+    (headers blocks : List Entry) (end : Option RecordEnd) where
   pub has_turned : new.transfers ≡ t → new.end ≡ end → new.block ≡ old.block → cleared_headers pass' ≡ headers →
       cleared_blocks pass' ≡ blocks → ReadsBoth hdu pass' → plan_in t ≡ plan_in old.transfers →
       (end ≡ None → IsOpenAs t.files.place.is_open (files_open files')) → EndsClosed end (files_open files') →

@@ -6,5 +6,5 @@ pub mod RecordingLaws
 pub mod TransferFiles
 pub mod Transfers
 pub mod Turns
-pub mod Tracks
+pub mod Spaces
 pub mod Recorder

@@ -15,27 +15,27 @@ use Rattle.dada_recorder.specs.Turns.{cleared_headers, cleared_blocks}
 
 -- what it records of: the offsets of its transfers, and its limits
 abbrev pub plan_of : {F : Type 0} → Recorder F → RecordPlan
-plan_of r = plan_in r.track.transfers
+plan_of r = plan_in r.space.transfers
 
 -- the size of the data ring's blocks
 abbrev pub block_size : {F : Type 0} → Recorder F → ℕ
-block_size r = r.track.block
+block_size r = r.space.block
 
 -- how it ended, if it did
 abbrev pub has_end : {F : Type 0} → Recorder F → Option RecordEnd
-has_end r = r.track.end
+has_end r = r.space.end
 
 -- the header of a transfer was cleared, and its data are next
 abbrev pub has_header : {F : Type 0} → Recorder F → Bool
-has_header r = r.track.transfers.has_header
+has_header r = r.space.transfers.has_header
 
 -- the file that was created last isn't finished
 abbrev pub has_open_file : {F : Type 0} → Recorder F → Bool
-has_open_file r = r.track.transfers.files.place.is_open
+has_open_file r = r.space.transfers.files.place.is_open
 
 -- it cleared these blocks of the header ring and of the data ring
 abbrev pub RecorderStands : {F : Type 0} → Recorder F → List Entry → List Entry → Type 0
-RecorderStands r headers blocks = StandsAt r.track.transfers headers blocks r.track.end
+RecorderStands r headers blocks = StandsAt r.space.transfers headers blocks r.space.end
 
 -- what the files tell of these blocks
 abbrev pub FilesAreOf : {F : Type 0} → Recorder F → Outset → List Entry → List Entry →
@@ -47,11 +47,11 @@ FilesAreOf r outset headers blocks seen =
 
 -- the space of a recorder with this plan, for blocks of this size
 pub record IsSpaceFor (space : RecorderSpace) (plan : RecordPlan) (block : ℕ) : Type 0 where
-  pub plan_is : plan_in space.track.transfers ≡ plan
-  pub block_is : space.track.block ≡ block
-  pub closed : space.track.transfers.files.place.is_open ≡ false
-  pub running : space.track.end ≡ None
-  pub nothing : IsRunning space.track.transfers [] []
+  pub plan_is : plan_in space.transfers ≡ plan
+  pub block_is : space.block ≡ block
+  pub closed : space.transfers.files.place.is_open ≡ false
+  pub running : space.end ≡ None
+  pub nothing : IsRunning space.transfers [] []
 
 -- a recorder with this plan, for blocks of this size, which read nothing and made nothing
 pub record IsFreshFor {F : Type 0} (r : Recorder F) (plan : RecordPlan) (block : ℕ) : Type 0 where

@@ -8,7 +8,6 @@ mod naming;
 mod recorder;
 mod recording_laws;
 mod space;
-mod track;
 mod transfer_files;
 mod transfers;
 

@@ -7,7 +7,6 @@ ghost use Rattle.dada_recorder.specs.Turns.{RecordAnswers, cleared_headers, clea
 
 use crate::answers::RecordTurn;
 use crate::space::RecorderSpace;
-use crate::track::Track;
 use dada_hdu::{Hdu, HduReader};
 use psr_base::{Files, Memory};
 use std::alloc::Global;
@@ -18,7 +17,7 @@ use std::alloc::Global;
 #[derive(Drop)]
 pub struct Recorder<'a, F> {
     files: &'a mut F,
-    track: Track<'a>,
+    space: RecorderSpace<'a>,
 }
 
 impl<'a, F: Files> Recorder<'a, F> {
@@ -53,8 +52,7 @@ impl<'a, F: Files> Recorder<'a, F> {
         ensures fresh { (plan : RecordPlan) (block : ℕ) → IsSpaceFor space.entry plan block
             → IsFreshFor result plan block }
     {
-        let RecorderSpace { track } = space;
-        Recorder { files, track }
+        Recorder { files, space }
     }
 
     /// Reads one block: a header block if a transfer is next, otherwise a data block. It is written to files, unless it
@@ -74,7 +72,11 @@ impl<'a, F: Files> Recorder<'a, F> {
             (has_end self.new) result }
         ensures files { TurnMakes F.is_open F.seen self.old pass.old self.new pass.new }
     {
-        self.track.turn(self.files, hdu, pass)
+        if self.space.transfers.has_header {
+            self.space.data_turn(self.files, hdu, pass)
+        } else {
+            self.space.header_turn(self.files, hdu, pass)
+        }
     }
 
     /// Returns the files.
@@ -82,7 +84,7 @@ impl<'a, F: Files> Recorder<'a, F> {
         ensures files { result.now ≡ self.entry.files.now }
         ensures same_reference { result.ghost_name ≡ self.entry.files.ghost_name }
     {
-        let Recorder { files, track: _ } = self;
+        let Recorder { files, space: _ } = self;
         files
     }
 }

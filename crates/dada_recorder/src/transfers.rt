@@ -26,7 +26,7 @@ pub(crate) struct Transfers<'a> {
     pub(crate) ended: u32,
     /// The number of files of these transfers.
     pub(crate) finished: u32,
-    /// Whether the header of the next transfer was read.
+    /// Whether the header of the next transfer was read, so that its data are next.
     pub(crate) has_header: bool,
     /// The files of that transfer.
     pub(crate) files: TransferFiles,
@@ -60,13 +60,6 @@ impl<'a> Transfers<'a> {
             files,
             total: 0,
         })
-    }
-
-    /// Whether the header of a transfer was read, so that its data are next.
-    pub(crate) fn has_header(&self) -> bool
-        ensures { result ≡ self.now.has_header }
-    {
-        self.has_header
     }
 
     /// Records a header block.

@@ -20,6 +20,7 @@ use Rattle.disk_feeder.specs.Filling.{IsFilled}
 use Rattle.disk_feeder.specs.Beginning.{start_place, HeadersRead, IsBegunStream}
 use Rattle.disk_feeder.specs.Feeding.{header_entries, headers_sealed, IsFeeding}
 use Rattle.disk_feeder.proofs.Needed.{told_within, told_to_open}
+use Rattle.disk_feeder.proofs.Behind.{begin_start}
 use Rattle.disk_feeder.proofs.Streams.{starts_of, first_header}
 use Rattle.disk_feeder.proofs.OfSource.{name_count, plan_starts}
 use Rattle.disk_feeder.proofs.Runs.{feeds_running}
@@ -106,6 +107,7 @@ read_start continue grow none plan told is_open starts accepted headed headers o
       (first_header 1 plan told files 0 headers (first_told is_open told plan files are open_now) below (omega arith)))
       starts.some)
       (λ open_now. left open_now files (first_told is_open told plan files are open_now));
+  begin = begin_start none plan told is_open starts.first;
 }
 
 -- ---- the first files that were read

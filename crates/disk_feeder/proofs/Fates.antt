@@ -1,7 +1,8 @@
 -- What comes of a stream, by what is due and by its end.
-use Rattle.std.proofs.Common.{◌≡◌, ◌≢◌, ℕ, List, inl, inr, Option, Some, None, length, sym, ap, ◌∙◌, subst, refl}
+use Rattle.std.proofs.Common.{◌≡◌, ◌≢◌, ℕ, ◌≤◌, List, inl, inr, Option, Some, None, length, sym, ap, ◌∙◌, subst, refl}
 use Rattle.std.proofs.lemmas.Bool.{cases_eq}
-use Rattle.psr_base.specs.Told.{Told}
+use mathlib.Core.List.{IsPrefix}
+use Rattle.psr_base.specs.Told.{Told, history}
 use Rattle.disk_feeder.specs.declared.answers.FeedEnd.{FeedEnd}
 use Rattle.disk_feeder.specs.declared.answers.FeedEnd.TheVariants.{Whole, ReadFault, BadHeader, Gap, TooLong}
 use Rattle.disk_feeder.specs.declared.due.Due.{Due}
@@ -12,7 +13,7 @@ use Rattle.disk_feeder.specs.declared.answers.FeedTurn.{FeedTurn}
 use Rattle.disk_feeder.specs.declared.answers.FeedTurn.TheVariants.{Moved, Waiting, Ended}
 use Rattle.disk_feeder.specs.declared.source.Source.{Source}
 use Rattle.disk_feeder.specs.Feeding.{GoesOn}
-use Rattle.disk_feeder.specs.History.{Fate, Running, Over, fate, fate_of, IsFated, StandsIf, ReadsUpTo, BreaksOffAt}
+use Rattle.disk_feeder.specs.History.{Fate, Running, Over, fate, fate_of, IsFated, StandsIf, read_before, read_first, ReadsUpTo, BreaksOffAt}
 use Rattle.disk_feeder.specs.Plan.{Plan, IsAmong, AreToldAt, opened_at}
 use Rattle.disk_feeder.specs.Sources.{plan_of}
 use Rattle.disk_feeder.specs.Streams.{StreamRead}
@@ -47,6 +48,15 @@ held_goes_on held size due old end full more none running =
       | inr other ↦ goes_on due end (more other ∙ none) running
     ]
 
+-- it is no fault
+pub held_is_calm : (held size : ℕ) (due old : Option Due) (end : FeedEnd) → (held ≡ size → due ≡ Some Full) →
+    (held ≢ size → due ≡ old) → old ≡ None → due ≡ Some (Stopped end) → ⊥
+held_is_calm held size due old end full more none stopped =
+    elim (cases_eq held size) [
+      | inl same ↦ let now = full same in absurd cc
+      | inr other ↦ let still = more other in absurd cc
+    ]
+
 -- what an end leaves that is a fault, or none
 pub at_stop : (stop : FeedEnd) (plan : Plan) (before told : Told) (at : Place) →
     (stop ≡ ReadFault → BreaksOffAt plan before told at) → IsFated (fate_of stop) plan before told at
@@ -75,13 +85,30 @@ to_fate s f plan at before told is same here read =
 pub same_files : (p q : Plan) (before told : Told) (at : Place) → q.names ≡ p.names → q.starts ≡ p.starts →
     q.max_bytes ≡ p.max_bytes → ReadsUpTo p before told at → ReadsUpTo q before told at
 same_files p q before told at names starts limit reads =
-    let Reads : List (List ℕ) → List ℕ → ℕ → Type 0 = λ ns ss m.
+    let Known : List (List ℕ) → List ℕ → ℕ → Type 0 = λ ns ss m.
     (files : List (List ℕ)) → AreToldAt (IsAmong (opened_at at) ss (length ns)) told ns files →
     StandsIf at.is_open ns (record { files = files; starts = ss; max_bytes = m }) before told at in
-    let P : List (List ℕ) → Type 0 = λ ns. Reads ns q.starts q.max_bytes in
-    let Q : List ℕ → Type 0 = λ ss. Reads p.names ss q.max_bytes in
-    let R : ℕ → Type 0 = λ m. Reads p.names p.starts m in
-    subst P (sym names) (subst Q (sym starts) (subst R (sym limit) reads))
+    let Through : List (List ℕ) → List ℕ → ℕ → Type 0 = λ ns ss m.
+    (k : ℕ) → k ≤ at.file → (files : List (List ℕ)) → AreToldAt (IsAmong k ss (length ns)) told ns files →
+    IsPrefix (history (read_before ns (record { files = files; starts = ss; max_bytes = m }) k before))
+    (read_first at.is_open told) in
+    record { known = of_parts Known reads.known; through = of_parts Through reads.through }
+  where
+    of_parts : (Of : List (List ℕ) → List ℕ → ℕ → Type 0) → Of p.names p.starts p.max_bytes →
+        Of q.names q.starts q.max_bytes
+    of_parts Of was =
+        let P : List (List ℕ) → Type 0 = λ ns. Of ns q.starts q.max_bytes in
+        let Q : List ℕ → Type 0 = λ ss. Of p.names ss q.max_bytes in
+        let R : ℕ → Type 0 = λ m. Of p.names p.starts m in
+        subst P (sym names) (subst Q (sym starts) (subst R (sym limit) was))
+
+-- the same of the files that another state of the source reads
+pub reads_of : (mid next : Source) (plan : Plan) (before told : Told) → mid ≡ next → plan_of next ≡ plan →
+    ReadsUpTo plan before told next.place → ReadsUpTo (plan_of mid) before told mid.place
+reads_of mid next plan before told source same reads =
+    let P : Source → Type 0 = λ x. ReadsUpTo (plan_of x) before told x.place in
+    let Q : Plan → Type 0 = λ x. ReadsUpTo x before told next.place in
+    subst P (sym source) (subst Q (sym same) reads)
 
 -- after the last block of a transfer
 pub after_last : (mid new : Stream) (turn : FeedTurn) (before told : Told) → GoesOn mid new turn →

@@ -5,7 +5,7 @@ use Rattle.std.specs.Option.{option_map}
 use Rattle.std.proofs.lemmas.Bool.{eq-eqb, ne_eqb}
 use Rattle.std.proofs.lemmas.List.{length-append}
 use Rattle.dada_model.specs.Fields.{HeaderText, HeaderRefusal, header_of}
-use Rattle.psr_base.specs.Told.{Told, left_to_read, opened, moved_by, at_end, ReadsJoin}
+use Rattle.psr_base.specs.Told.{Told, history, left_to_read, opened, moved_by, at_end, ReadsJoin}
 use Rattle.stream_model.specs.Walk.{FileStream, file_at, begin_of, data_between, data_of, data_past}
 use Rattle.stream_model.specs.WalkLaws.{DataGrow, DataNone}
 use Rattle.disk_feeder.specs.declared.place.Place.{Place}
@@ -15,7 +15,7 @@ use Rattle.disk_feeder.proofs.Fronts.{header_within}
 
 -- ---- a file's front and its data
 
--- what comes before the data lies within the file
+-- what is read for its header lies within the file
 pub front_most : (file : List ℕ) → front_of file ≤ length file
 unfolding front_of
 front_most file = by_header (header_of file) refl
@@ -24,14 +24,14 @@ front_most file = by_header (header_of file) refl
     by_header (Ok h) is = header_within file h is
     by_header (Err refusal) is = omega arith
 
--- and the rest are the data
-pub data_length : (file : List ℕ) → length (data_of file) ≡ length file - front_of file
+-- and where it has one the rest are the data
+pub data_length : (file : List ℕ) (h : HeaderText) → header_of file ≡ Ok h →
+    length (data_of file) ≡ length file - front_of file
 unfolding data_of front_of
-data_length file = by_header (header_of file)
-  where
-    by_header : (r : Result HeaderText HeaderRefusal) → length (data_past file r) ≡ length file - front_in file r
-    by_header (Ok h) = length-drop h.size file
-    by_header (Err refusal) = omega arith
+data_length file h is =
+    ap (λ (r : Result HeaderText HeaderRefusal). length (data_past file r)) is
+    ∙ length-drop h.size file
+    ∙ ap (λ (r : Result HeaderText HeaderRefusal). length file - front_in file r) (sym is)
 
 -- ---- by whether the file is open
 
@@ -70,11 +70,12 @@ module _ (names : List (List ℕ)) (s : FileStream) (before told told' : Told) (
   -- ---- a file is opened
 
   -- its header was read
-  pub opened_on : IsShut names s before told transfer k count →
+  pub opened_on : (h : HeaderText) → header_of file ≡ Ok h → IsShut names s before told transfer k count →
       told' ≡ moved_by (front_of file) (opened name told) → IsReadUpTo names s before told' transfer k count
-  opened_on was step =
+  opened_on h has was step =
       let same = was.count_is in
       record {
+        header = (h, has);
         place = front_of file;
         past = omega arith;
         within = front_most file;
@@ -111,6 +112,7 @@ module _ (names : List (List ℕ)) (s : FileStream) (before told told' : Told) (
       let within = was.within in
       let so_far = was.count_is in
       record {
+        header = was.header;
         place = was.place + n;
         past = omega arith;
         within = omega (arith, length-drop was.place file);
@@ -142,9 +144,14 @@ module _ (names : List (List ℕ)) (s : FileStream) (before told told' : Told) (
           all,
           ap (length {A = ℕ}) (grow s.files (begin_of s transfer) k from there),
           length-append (data_between s.files (begin_of s transfer) k) (data_of file),
-          data_length file,
+          data_length file was.header.0 was.header.1,
         );
       }
+
+-- what was read before the open file
+pub open_first : (names : List (List ℕ)) (s : FileStream) (before told : Told) (transfer k count : ℕ) →
+    IsReadUpTo names s before told transfer k count → told.earlier ≡ history (read_before names s k before)
+open_first names s before told transfer k count was = ap (λ (t : Told). t.earlier) was.told_is
 
 -- ---- a transfer ends
 
@@ -167,17 +174,18 @@ nothing none s first =
     sym (ap (λ (j : ℕ). length (data_between s.files j 0)) first ∙ ap (length {A = ℕ}) (none s.files 0))
 
 -- of one transfer: its file is read on
-pub begun_open : (names : List (List ℕ)) (s : FileStream) (before told : Told) → length s.starts ≡ 1 →
-    begin_of s 0 ≡ 0 → DataNone →
+pub begun_open : (names : List (List ℕ)) (s : FileStream) (before told : Told) (h : HeaderText) →
+    header_of (file_at s 0) ≡ Ok h → length s.starts ≡ 1 → begin_of s 0 ≡ 0 → DataNone →
     told ≡ firsts_read (name_of_first names s) (first_of s) (length s.starts) before →
     IsReadUpTo names s before told 0 0 0
 unfolding files_read firsts_read
-begun_open names s before told one first none read =
+begun_open names s before told h has one first none read =
     let start : read_before names s 0 before ≡ before =
     ap (λ (b : Bool). if b then before else firsts_read (name_of_first names s) (first_of s) (length s.starts) before)
     (eq-eqb (length s.starts) 1 one) in
     let F : ℕ → Told → Told = λ k t. moved_by (front_of (file_at s k)) (opened (file_name names k) t) in
     record {
+      header = (h, has);
       place = front_of (file_at s 0);
       past = omega arith;
       within = front_most (file_at s 0);

@@ -67,6 +67,7 @@ go_on whole mid new told headers blocks (Ended end) a source block held due goes
           (whole_sealed whole plan told mid.source.place (length mid.block.items) headers blocks a.sealed goes.0
           mid.source.headed a.over a.headers_are (plan_place mid.source).total)));
       cut = λ failed files are. let all = goes.1 in absurd cc;
+      past = λ failed. let all = goes.1 in absurd cc;
     })
 
 -- the next transfer begins where the one before ended

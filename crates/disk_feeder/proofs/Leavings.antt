@@ -18,10 +18,13 @@ pub leaves : (s : Stream) (before told : Told) (headers blocks : List Entry) →
 leaves s before told headers blocks feeds ended read =
     let P : Option FeedEnd → Type 0 = λ e. FeedsTo s told headers blocks e in
     let was : HasEndedAs s told headers blocks ReadFault = subst P ended feeds in
+    let broke = of_fate s Broken before told (has_ended s.due s.end ReadFault ended) read in
     record {
       passed = was.ended.passed;
       cut = was.cut refl;
-      stood = of_fate s Broken before told (has_ended s.due s.end ReadFault ended) read;
+      stood = broke.known;
+      past = was.past refl;
+      through = broke.through;
       shut = λ unopened. (unopened (inr ended)).shut;
       unopened = λ unopened. (unopened (inr ended)).read;
     }

@@ -1,6 +1,7 @@
 pub mod Fronts
 pub mod Needed
 pub mod Streams
+pub mod Behind
 pub mod Headers
 pub mod Prefixes
 pub mod Reaching

@@ -46,7 +46,7 @@ among_more : (few many : ℕ) (starts : List ℕ) (count k : ℕ) → few ≤ ma
 among_more few many starts count k less (inl below) = inl (omega arith)
 among_more few many starts count k less (inr first) = inr first
 
-firsts_fewer : (few many : ℕ) (told : Told) (plan : Plan) (files : List (List ℕ)) → few ≤ many →
+pub firsts_fewer : (few many : ℕ) (told : Told) (plan : Plan) (files : List (List ℕ)) → few ≤ many →
     AreToldWithFirsts many told plan files → AreToldWithFirsts few told plan files
 firsts_fewer few many told plan files less are = record {
   count = are.count;

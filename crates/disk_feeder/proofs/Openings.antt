@@ -12,7 +12,7 @@ use Rattle.disk_feeder.specs.declared.answers.FeedEnd.TheVariants.{Whole, ReadFa
 use Rattle.disk_feeder.specs.declared.place.First.{First}
 use Rattle.disk_feeder.specs.declared.place.Place.{Place}
 use Rattle.disk_feeder.specs.Ends.{end_of, IsOfHeader}
-use Rattle.disk_feeder.specs.Plan.{Plan, stream_of, AreToldTo, opened_at, begin_at}
+use Rattle.disk_feeder.specs.Plan.{Plan, stream_of, AreToldTo, opened_at, begin_at, IsAtFile}
 use Rattle.disk_feeder.specs.Reading.{IsAt, HasRead, IsFront, IsEnd, StopsAtFile, EndsReading}
 use Rattle.disk_feeder.specs.Reached.{WalkGoesOn}
 use Rattle.disk_feeder.proofs.Reaching.{IsWithin, came_to}
@@ -38,6 +38,9 @@ pub record Opens (plan : Plan) (told told' : Told) (at : Place) : Type 0 where
   pub upto : at.file < begin_at plan.starts (length plan.names) (at.transfer + 1)
   pub within : at.total ≤ plan.max_bytes
   pub names : told'.bytes_under ≡ told.bytes_under
+
+pub at_file : (plan : Plan) (told told' : Told) (at : Place) → Opens plan told told' at → IsAtFile plan at
+at_file plan told told' at o = record { there = o.there; from = o.from; before = o.upto }
 
 module _ (plan : Plan) (told told' : Told) (at : Place) (before : List (List ℕ)) (current : List ℕ)
     (o : Opens plan told told' at) (has : HasRead plan told at before current)

@@ -12,12 +12,13 @@ use Rattle.stream_model.specs.WalkLaws.{AreStarts, IsIn, FilesAreInTransfers, Da
 use Rattle.disk_feeder.specs.declared.answers.FeedEnd.TheVariants.{TooLong}
 use Rattle.disk_feeder.specs.declared.place.Place.{Place}
 use Rattle.disk_feeder.specs.Ends.{end_of}
-use Rattle.disk_feeder.specs.Plan.{Plan, stream_of, AreToldTo, opened_at, begin_at}
+use Rattle.disk_feeder.specs.Plan.{Plan, stream_of, AreToldTo, opened_at, begin_at, IsAtFile}
 use Rattle.disk_feeder.specs.Reading.{IsAt, HasRead, IsFront, IsEnd, StopsAtFile}
 use Rattle.disk_feeder.specs.Reached.{WalkGoesOn}
 use Rattle.disk_feeder.proofs.Reaching.{IsWithin, came_to}
 use Rattle.disk_feeder.proofs.Streams.{starts_of, begin_most, is_in}
 use Rattle.disk_feeder.proofs.Needed.{told_before, told_fewer, told_opened, passed_still, headers_still}
+use Rattle.disk_feeder.proofs.Behind.{begin_still, begin_more, begin_closed}
 use Rattle.disk_feeder.proofs.Fulls.{abandoned_past}
 
 -- what is left of what is told after n bytes
@@ -64,6 +65,9 @@ pub record Reads (plan : Plan) (told told' : Told) (at : Place) : Type 0 where
   pub upto : at.file < begin_at plan.starts (length plan.names) (at.transfer + 1)
   pub within : at.total ≤ plan.max_bytes
   pub names : told'.bytes_under ≡ told.bytes_under
+
+pub at_file : (plan : Plan) (told told' : Told) (at : Place) → Reads plan told told' at → IsAtFile plan at
+at_file plan told told' at o = record { there = o.there; from = o.from; before = o.upto }
 
 module _ (plan : Plan) (told told' : Told) (at : Place) (before : List (List ℕ)) (current : List ℕ)
     (o : Reads plan told told' at) (has : HasRead plan told at before current)
@@ -228,6 +232,13 @@ has_closed plan told told' at before current o has joins buffer gives =
     let same : length (current ++ []) ≡ length current = ap (length {A = ℕ}) (append-nil current) in
     let since = has.since in
     let total = has.total in
+    let closed_at : (files : List (List ℕ)) → AreToldTo (at.file + 1) told' plan files →
+    IsAt (stream_of plan files) told' (record at { file = at.file + 1; is_open = false }) before (current ++ []) =
+    λ files are.
+    let fewer = told_opened at told' plan files are in
+    closed plan told told' at before current o has files fewer joins buffer
+    (gives (left plan told told' at before current o has files fewer)
+    (left_is plan told told' at before current o has files fewer)) in
     record {
       accepted = has.accepted;
       headers = headers_still plan told told' o.names has.headers;
@@ -236,18 +247,12 @@ has_closed plan told told' at before current o has joins buffer gives =
       total = omega arith;
       passed = λ k less files are. elim (cases_eq k at.file) [
         | inl same ↦
-            let fewer = told_opened at told' plan files
-            (told_fewer (at.file + 1) (k + 1) told' plan files (omega arith) are) in
-            (closed plan told told' at before current o has files fewer joins buffer
-            (gives (left plan told told' at before current o has files fewer)
-            (left_is plan told told' at before current o has files fewer))).passed k less
+            (closed_at files (told_fewer (at.file + 1) (k + 1) told' plan files (omega arith) are)).passed k less
         | inr other ↦ passed_still plan told told' at.file o.names has.passed k (omega arith) files are
       ];
-      known = λ files are.
-          let fewer = told_opened at told' plan files are in
-          closed plan told told' at before current o has files fewer joins buffer
-          (gives (left plan told told' at before current o has files fewer)
-          (left_is plan told told' at before current o has files fewer));
+      known = closed_at;
+      begin = begin_closed plan told' at before current
+          (begin_still plan told at before current has.begin told' o.names) closed_at;
     }
 
 pub has_took : (plan : Plan) (told told' : Told) (at : Place) (before : List (List ℕ)) (current : List ℕ) →
@@ -271,4 +276,7 @@ has_took plan told told' at before current o has n buffer room gives moved =
           (gives (left plan told told' at before current o has files are) (left_is plan told told' at before current o
           has
           files are)) moved;
+      begin = begin_more plan told' at before current
+          (begin_still plan told at before current has.begin told' o.names) (take n buffer) (at.since + n)
+          (at.total + n) o.opened;
     }

@@ -24,7 +24,7 @@ use Rattle.disk_feeder.specs.Plan.{Plan, stream_of, AreToldTo, opened_at, begin_
 use Rattle.disk_feeder.specs.Reading.{HasRead, HasEnded, IsFront, EndsReading}
 use Rattle.disk_feeder.specs.Sources.{IsEarly}
 use Rattle.disk_feeder.specs.Filling.{IsFilled, DueIs}
-use Rattle.disk_feeder.specs.Feeding.{header_entries, IsWalkEnd, EndIs, StopsWalkAt, SealedAs, IsEnded, IsCutAt}
+use Rattle.disk_feeder.specs.Feeding.{header_entries, IsWalkEnd, EndIs, StopsWalkAt, SealedAs, IsEnded, IsCutAt, IsCutPast}
 use Rattle.disk_feeder.proofs.Needed.{told_opened}
 use Rattle.disk_feeder.proofs.Fulls.{quotient_is, within_is}
 
@@ -331,6 +331,26 @@ cut_at plan told at block held end blocks blocks' f within is failed files are =
           (sym (ap (take (length f.current)) front.front ∙ take_at f.current front.more (length f.current) refl))
           ∙ ap (λ (n : ℕ). abandoned_stream size plan.max_bytes (take at.transfer (walk_data s))
           (take n (transfer_data s at.transfer))) since;
+    }
+
+-- and these begin with those of the files before, whether or not the file at the place is told
+pub cut_past : (plan : Plan) (told : Told) (at : Place) (block : List ℕ) (held : ℕ) (end : FeedEnd)
+    (blocks blocks' : List Entry) → IsFilled plan told at block held (Some (Stopped end)) blocks →
+    at.total ≤ plan.max_bytes → blocks' ≡ blocks ++ entry Cut [] ∷ [] →
+    IsCutPast plan told at (length block) blocks'
+cut_past plan told at block held end blocks blocks' f within is =
+    let counts = f.next.0 in
+    let total = counts.total in
+    record {
+      inside = f.next.2.inside;
+      before = f.before;
+      current = f.current;
+      transfers = counts.transfers;
+      since = counts.since;
+      begin = f.next.2.begin;
+      few = omega arith;
+      stream = cut_stream (length block) plan.max_bytes f.before f.current f.fulls held blocks blocks' f.count f.next.1
+          (omega arith) f.sealed is;
     }
 
 -- ---- a header

@@ -1,5 +1,6 @@
 -- The end of a transfer.
-use Rattle.std.proofs.Common.{◌≡◌, ℕ, ◌+◌, ◌<◌, false, List, [], ◌∷◌, ◌++◌, length, take, refl, sym, ap, ◌∙◌, arith}
+use Rattle.std.proofs.Common.{◌≡◌, ℕ, ◌+◌, ◌<◌, Bool, false, List, [], ◌∷◌, ◌++◌, length, take, refl, sym, ap, ◌∙◌, subst, arith}
+use Rattle.std.specs.Prelude.{if◌then◌else◌}
 use Rattle.std.proofs.lemmas.Bool.{true≢false}
 use Rattle.std.proofs.lemmas.List.{append-nil, length-append, length_push}
 use Rattle.std.proofs.lemmas.Grind.{flat_map-append}
@@ -10,6 +11,7 @@ use Rattle.stream_model.specs.WalkLaws.{OneTransferMore, DataNone}
 use Rattle.disk_feeder.specs.declared.place.Place.{Place}
 use Rattle.disk_feeder.specs.Plan.{Plan, stream_of, AreToldTo, opened_at, begin_at}
 use Rattle.disk_feeder.specs.Reading.{IsAt, HasRead}
+use Rattle.disk_feeder.proofs.Behind.{begin_next}
 use Rattle.disk_feeder.proofs.Streams.{begin_is}
 
 pub joined_more : (before : List (List ℕ)) (current : List ℕ) →
@@ -63,4 +65,7 @@ module _ (plan : Plan) (told : Told) (at : Place) (before : List (List ℕ)) (cu
         );
         passed = has.passed;
         known = at_next;
+        begin = begin_next plan told at before current has.begin over (λ files are.
+            let P : Bool → Type 0 = λ b. AreToldTo (if b then at.file + 1 else at.file) told plan files in
+            at_next files (subst P (sym shut) are)) shut;
       }

@@ -18,7 +18,7 @@ reads_before : (plan : Plan) (before told : Told) (at : Place) → at.is_open �
     ReadsUpTo plan before told at → ReadsBefore plan before told at
 reads_before plan before told at shut reads = λ files are.
     let P : Bool → Type 0 = λ b. AreToldWithFirsts (if b then at.file + 1 else at.file) told plan files in
-    stands_shut at.is_open plan.names (stream_of plan files) before told at shut (reads files (subst P (sym shut) are))
+    stands_shut at.is_open plan.names (stream_of plan files) before told at shut (reads.known files (subst P (sym shut) are))
 
 -- a file that could not be opened
 pub not_opened : (old new : Source) (before told told' : Told) → plan_of new ≡ plan_of old → new.place ≡ old.place →

@@ -1,7 +1,8 @@
 -- How a feeder begins: the first header of each transfer is read, and then its observation accepted.
 -- Source: this project's profile.
-use Rattle.std.specs.Prelude.{◌≡◌, ◌≢◌, ⊤, ℕ, ◌+◌, ◌<◌, Bool, true, false, None, Some, Ok, List, length, IsSome, slice_get}
-use Rattle.psr_base.specs.Told.{Told, OfFile, left_to_read}
+use Rattle.std.specs.Prelude.{◌≡◌, ◌≢◌, ⊤, ℕ, ◌+◌, ◌<◌, ◌≤◌, Bool, true, false, None, Some, Ok, List, length, IsSome, slice_get}
+use mathlib.Core.List.{IsPrefix}
+use Rattle.psr_base.specs.Told.{Told, OfFile, history, left_to_read}
 use Rattle.dada_model.specs.Fields.{HeaderText, header_of}
 use Rattle.stream_model.specs.Walk.{data_of}
 use Rattle.disk_feeder.specs.declared.answers.FeedFault.{FeedFault}
@@ -45,8 +46,15 @@ FirstsRead told source count told' = (file_of : ℕ → List ℕ) →
     AreFirstFiles told source count file_of →
     told' ≡ firsts_read (first_name source) file_of count told
 
--- A fault came before the first header of some transfer was judged; those before it were read, and are headers. Of
--- calm inputs it comes only where that file isn't told, and nothing else was read.
+-- as far as bytes are told of the first files of so many transfers, from the first one on, the headers of these files
+-- were read in order, before anything else
+abbrev pub FirstsThrough : Told → Source → ℕ → Told → Type 0
+FirstsThrough told source count told' = (k : ℕ) → k ≤ count → (file_of : ℕ → List ℕ) →
+    AreFirstFiles told source k file_of →
+    IsPrefix (history (firsts_read (first_name source) file_of k told)) (history told')
+
+-- A fault came before the first header of some transfer was judged; those before it were read, as far as their files
+-- are told, and are headers. Of calm inputs it comes only where that file isn't told, and nothing else was read.
 pub record BreaksFirst (told : Told) (is_calm : Type 0) (source : Source) (told' : Told) :
     Type 0 where
   pub transfer : ℕ
@@ -57,6 +65,7 @@ pub record BreaksFirst (told : Told) (is_calm : Type 0) (source : Source) (told'
   pub broke : (file_of : ℕ → List ℕ) → AreFirstFiles told source (transfer + 1) file_of →
       BreaksAt (first_name source transfer) (file_of transfer)
       (firsts_read (first_name source) file_of transfer told) told'
+  pub through : FirstsThrough told source transfer told'
   pub missing : is_calm → ¬ IsSome (told.bytes_under (first_name source transfer))
   pub unopened : is_calm → FirstsRead told source transfer told'
 

@@ -2,7 +2,7 @@
 -- Source: this project's profile.
 use Rattle.std.specs.Prelude.{◌≡◌, ◌≢◌, ⊤, ℕ, ◌+◌, ◌/◌, ◌<◌, ◌≤◌, ◌⊎◌, Bool, true, false, if◌then◌else◌, Option, IsSome, Some, None, List, [], ◌∷◌, ◌++◌, map, length, take}
 use mathlib.Core.List.{IsPrefix}
-use Rattle.psr_base.specs.Told.{Told}
+use Rattle.psr_base.specs.Told.{Told, history}
 use Rattle.dada_model.specs.Fields.{HeaderText}
 use Rattle.ring_blocks.specs.declared.Entry.{Entry}
 use Rattle.dada_hdu.specs.declared.passes.HduWriter.{HduWriter}
@@ -22,9 +22,9 @@ use Rattle.disk_feeder.specs.declared.place.Place.{Place}
 use Rattle.disk_feeder.specs.declared.stream.Stream.{Stream}
 use Rattle.disk_feeder.specs.Ends.{end_of, NamesPlace}
 use Rattle.disk_feeder.specs.declared.source.Source.{Source}
-use Rattle.disk_feeder.specs.History.{BreaksIf, ReadsBefore}
-use Rattle.disk_feeder.specs.Plan.{Plan, stream_of, AreTold, AreToldTo, AreToldWithFirsts, opened_at, AreAccepted}
-use Rattle.disk_feeder.specs.Reading.{NoStopBefore, StopsAtFile, judged_at}
+use Rattle.disk_feeder.specs.History.{BreaksIf, ReadsThrough, ReadsBefore}
+use Rattle.disk_feeder.specs.Plan.{Plan, stream_of, AreTold, AreToldTo, AreToldWithFirsts, opened_at, IsAtFile, AreAccepted}
+use Rattle.disk_feeder.specs.Reading.{NoStopBefore, DataBegin, StopsAtFile, judged_at}
 use Rattle.disk_feeder.specs.Sources.{plan_of, current_name, IsEarly}
 use Rattle.disk_feeder.specs.Streams.{IsStream, StreamRead}
 use Rattle.disk_feeder.specs.Filling.{IsSince}
@@ -137,6 +137,19 @@ pub record IsCutAt (s : FileStream) (at : Place) (size : ℕ) (blocks : List Ent
   pub stream : blocks ≡ abandoned_stream size s.max_bytes (take at.transfer (walk_data s))
       (take at.since (transfer_data s at.transfer))
 
+-- What was sealed there, whether or not the file at the place is told: the full blocks of the data that were read, all
+-- within the limit, with a Cut. These data begin with those of the files before the place, as far as these are told.
+pub record IsCutPast (plan : Plan) (told : Told) (at : Place) (size : ℕ) (blocks : List Entry) :
+    Type 0 where
+  pub inside : IsAtFile plan at
+  pub before : List (List ℕ)
+  pub current : List ℕ
+  pub transfers : length before ≡ at.transfer
+  pub since : length current ≡ at.since
+  pub begin : DataBegin plan told at before current
+  pub few : length (joined_data before) + length current ≤ plan.max_bytes
+  pub stream : blocks ≡ abandoned_stream size plan.max_bytes before current
+
 -- once a stream ended, and where it did so by a fault
 pub record HasEndedAs (s : Stream) (told : Told) (headers blocks : List Entry) (end : FeedEnd) :
     Type 0 where
@@ -145,6 +158,8 @@ pub record HasEndedAs (s : Stream) (told : Told) (headers blocks : List Entry) (
   pub cut : end ≡ ReadFault → (files : List (List ℕ)) →
       AreToldTo (opened_at s.source.place) told (plan_of s.source) files →
       IsCutAt (stream_of (plan_of s.source) files) s.source.place (length s.block.items) blocks
+  pub past : end ≡ ReadFault →
+      IsCutPast (plan_of s.source) told s.source.place (length s.block.items) blocks
 
 abbrev pub FeedsTo : Stream → Told → List Entry → List Entry → Option FeedEnd → Type 0
 FeedsTo s told headers blocks None = IsRunning s told headers blocks
@@ -158,8 +173,11 @@ IsFeeding s told headers blocks = FeedsTo s told headers blocks s.end
 -- It came at this place, and no file before stops the walk. Where the files that were opened are told, nothing that was
 -- read stops it, and the full blocks of the transfer are those of the data bytes that were read of it, and no other.
 -- Where the file at the place and the first one of each transfer are told too, it was not opened, or its header isn't
--- judged by what was read; or its header goes on, and it was read up to the place. Calm inputs could not open it: where
--- those before it are told, and the first one of each transfer, they were read to their ends, and nothing else was.
+-- judged by what was read; or its header goes on, and it was read up to the place. Whether or not that file is told,
+-- the data that were read begin with those of the files before it, as far as these are told; and where the first one of
+-- each transfer is told too, these files were read to their ends before anything else. Calm inputs could not open the
+-- file: where those before it are told, and the first one of each transfer, they were read to their ends, and nothing
+-- else was.
 pub record BreaksReading (plan : Plan) (before : Told) (is_calm : Type 0) (after : Told)
     (at : Place) (size : ℕ) (blocks : List Entry) : Type 0 where
   pub passed : NoStopBefore plan after at.file
@@ -167,6 +185,8 @@ pub record BreaksReading (plan : Plan) (before : Told) (is_calm : Type 0) (after
       IsCutAt (stream_of plan files) at size blocks
   pub stood : (files : List (List ℕ)) → AreToldWithFirsts (at.file + 1) after plan files →
       BreaksIf at.is_open plan.names (stream_of plan files) before after at
+  pub past : IsCutPast plan after at size blocks
+  pub through : ReadsThrough plan before after at.file (history after)
   pub shut : is_calm → at.is_open ≡ false
   pub unopened : is_calm → ReadsBefore plan before after at
 

@@ -1,7 +1,9 @@
 -- What a feeder opened and read of its files, one after another, since its inputs told something.
 -- Source: this project's profile.
-use Rattle.std.specs.Prelude.{◌≡◌, ℕ, zero, suc, ◌+◌, ◌-◌, ◌<◌, ◌≤◌, ◌==◌, Bool, true, false, if◌then◌else◌, ⊤, Option, Some, None, List, [], length, slice_index_or, Result, MatchResult}
-use Rattle.psr_base.specs.Told.{Told, opened, moved_by, at_end}
+use Rattle.std.specs.Prelude.{◌≡◌, ℕ, zero, suc, ◌+◌, ◌-◌, ◌<◌, ◌≤◌, ◌==◌, Bool, true, false, if◌then◌else◌, ⊤, Option, Some, None, List, [], length, slice_index_or, Result, Ok, MatchResult}
+use mathlib.Core.List.{IsPrefix}
+use Rattle.dada_model.specs.Fields.{HeaderText, header_of}
+use Rattle.psr_base.specs.Told.{Told, Reading, history, opened, moved_by, at_end}
 use Rattle.stream_model.specs.Walk.{FileStream, file_at, begin_of, data_between}
 use Rattle.disk_feeder.specs.declared.answers.FeedEnd.{FeedEnd}
 use Rattle.disk_feeder.specs.declared.answers.FeedEnd.TheVariants.{Whole, ReadFault, BadHeader, Gap, TooLong}
@@ -62,9 +64,10 @@ pub record IsShut (names : List (List ℕ)) (s : FileStream) (before told : Told
   pub told_is : told ≡ read_before names s k before
   pub count_is : count ≡ data_so_far s transfer k
 
--- the file is open, and its bytes were read up to a place past its header
+-- the file is open, it has a header, and its bytes were read up to a place past that
 pub record IsReadUpTo (names : List (List ℕ)) (s : FileStream) (before told : Told)
     (transfer k count : ℕ) : Type 0 where
+  pub header : (h : HeaderText) × (header_of (file_at s k) ≡ Ok h)
   pub place : ℕ
   pub past : front_of (file_at s k) ≤ place
   pub within : place ≤ length (file_at s k)
@@ -91,11 +94,24 @@ BreaksIf false names s before told at =
 BreaksIf true names s before told at =
     IsReadUpTo names s before told at.transfer at.file at.since
 
--- where the files that were opened are told, and the first one of each transfer, they were read up to the place
-abbrev pub ReadsUpTo : Plan → Told → Told → Place → Type 0
-ReadsUpTo plan before told at = (files : List (List ℕ)) →
-    AreToldWithFirsts (opened_at at) told plan files →
-    StandsIf at.is_open plan.names (stream_of plan files) before told at
+-- what was read before the file that is open, or all that was where none is
+abbrev pub read_first : Bool → Told → List Reading
+read_first false told = history told
+read_first true told = told.earlier
+
+-- up to a file, whether or not it is told: where the files before some file k up to there are told, and the first one
+-- of each transfer, they were read to their ends, in order, before anything else
+abbrev pub ReadsThrough : Plan → Told → Told → ℕ → List Reading → Type 0
+ReadsThrough plan before told file readings = (k : ℕ) → k ≤ file → (files : List (List ℕ)) →
+    AreToldWithFirsts k told plan files →
+    IsPrefix (history (read_before plan.names (stream_of plan files) k before)) readings
+
+-- Where the files that were opened are told, and the first one of each transfer, they were read up to the place. Those
+-- before the place were read through, whether or not the file there is told.
+pub record ReadsUpTo (plan : Plan) (before told : Told) (at : Place) : Type 0 where
+  pub known : (files : List (List ℕ)) → AreToldWithFirsts (opened_at at) told plan files →
+      StandsIf at.is_open plan.names (stream_of plan files) before told at
+  pub through : ReadsThrough plan before told at.file (read_first at.is_open told)
 
 -- no file is open there: where those before it are told, and the first one of each transfer, these were read to the end
 abbrev pub ReadsBefore : Plan → Told → Told → Place → Type 0
@@ -103,11 +119,12 @@ ReadsBefore plan before told at = (files : List (List ℕ)) →
     AreToldWithFirsts at.file told plan files →
     IsShut plan.names (stream_of plan files) before told at.transfer at.file at.since
 
--- a fault came there, where the file at the place is told too
-abbrev pub BreaksOffAt : Plan → Told → Told → Place → Type 0
-BreaksOffAt plan before told at = (files : List (List ℕ)) →
-    AreToldWithFirsts (at.file + 1) told plan files →
-    BreaksIf at.is_open plan.names (stream_of plan files) before told at
+-- A fault came there, as is said where the file at the place is told too. Those before it were read through, whether or
+-- not it is told.
+pub record BreaksOffAt (plan : Plan) (before told : Told) (at : Place) : Type 0 where
+  pub known : (files : List (List ℕ)) → AreToldWithFirsts (at.file + 1) told plan files →
+      BreaksIf at.is_open plan.names (stream_of plan files) before told at
+  pub through : ReadsThrough plan before told at.file (history told)
 
 -- a call read on, or a fault came; of another end nothing is said here
 abbrev pub ReadsOn : {T : Type 0} → Plan → Place → Told → Place → Told → Result T FeedEnd → Type 0

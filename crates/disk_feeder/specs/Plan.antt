@@ -77,6 +77,12 @@ pub record IsPlace (starts : List ℕ) (count max_bytes : ℕ) (at : Place) : Ty
   pub since : at.since ≤ at.total
   pub total : at.total ≤ max_bytes
 
+-- the place is at a file of its transfer
+pub record IsAtFile (plan : Plan) (at : Place) : Type 0 where
+  pub there : at.transfer < length plan.starts
+  pub from : begin_at plan.starts (length plan.names) at.transfer ≤ at.file
+  pub before : at.file < begin_at plan.starts (length plan.names) (at.transfer + 1)
+
 -- what was accepted of a header: its observation
 pub record IsFirst (header : HeaderText) (first : First) : Type 0 where
   pub accepted : observation_of (fields_of header.text)

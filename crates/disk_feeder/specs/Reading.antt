@@ -11,7 +11,7 @@ use Rattle.disk_feeder.specs.declared.answers.FeedEnd.{FeedEnd}
 use Rattle.disk_feeder.specs.declared.answers.FeedEnd.TheVariants.{Whole, ReadFault}
 use Rattle.disk_feeder.specs.declared.place.Place.{Place}
 use Rattle.disk_feeder.specs.Ends.{end_of}
-use Rattle.disk_feeder.specs.Plan.{Plan, stream_of, AreToldTo, opened_at, AreAccepted, HeadersAreTold}
+use Rattle.disk_feeder.specs.Plan.{Plan, stream_of, begin_at, AreToldTo, opened_at, IsAtFile, AreAccepted, HeadersAreTold}
 
 -- The walk of these files came to this place: `before` are the data of the transfers before, `current` those that were
 -- read of the transfer, and what is left of the open file and the files after it are still to come.
@@ -29,6 +29,36 @@ abbrev pub NoStopBefore : Plan → Told → ℕ → Type 0
 NoStopBefore plan told file = (k : ℕ) → k < file → (files : List (List ℕ)) →
     AreToldTo (k + 1) told plan files → stop_at (stream_of plan files) k ≡ None
 
+-- the data that were read of the transfer of a place begin with those of its files before file k, and are these alone
+-- where that is the file of the place and isn't open
+pub record BeginsWith (s : FileStream) (at : Place) (k : ℕ) (before : List (List ℕ))
+    (current : List ℕ) : Type 0 where
+  pub earlier : before ≡ take at.transfer (walk_data s)
+  pub more : List ℕ
+  pub front : current ≡ data_between s.files (begin_of s at.transfer) k ++ more
+  pub all : k ≡ at.file → at.is_open ≡ false → more ≡ []
+
+-- the data of an earlier transfer begin with those of its files before file k
+pub record PassesWith (s : FileStream) (transfer k : ℕ) (before : List (List ℕ)) : Type 0 where
+  pub more : List ℕ
+  pub later : List (List ℕ)
+  pub is : before
+      ≡ take transfer (walk_data s) ++ (data_between s.files (begin_of s transfer) k ++ more) ∷ later
+
+-- Whether or not the file at a place is told, the data that were read begin with those of the files before it, as far
+-- as these are told: in the transfer of the place, and in each earlier one, with those of its files before file k,
+-- where all files before file k are told
+pub record DataBegin (plan : Plan) (told : Told) (at : Place) (before : List (List ℕ))
+    (current : List ℕ) : Type 0 where
+  pub here : (k : ℕ) → begin_at plan.starts (length plan.names) at.transfer ≤ k → k ≤ at.file →
+      (files : List (List ℕ)) → AreToldTo k told plan files →
+      BeginsWith (stream_of plan files) at k before current
+  pub past : (transfer k : ℕ) → transfer < at.transfer →
+      begin_at plan.starts (length plan.names) transfer ≤ k →
+      k ≤ begin_at plan.starts (length plan.names) (transfer + 1) →
+      (files : List (List ℕ)) → AreToldTo k told plan files →
+      PassesWith (stream_of plan files) transfer k before
+
 -- A feeder at a place has read these data, where the files that were opened are told. Each first header is that of its
 -- file.
 pub record HasRead (plan : Plan) (told : Told) (at : Place) (before : List (List ℕ))
@@ -41,6 +71,7 @@ pub record HasRead (plan : Plan) (told : Told) (at : Place) (before : List (List
   pub passed : NoStopBefore plan told at.file
   pub known : (files : List (List ℕ)) → AreToldTo (opened_at at) told plan files →
       IsAt (stream_of plan files) told at before current
+  pub begin : DataBegin plan told at before current
 
 -- Where reading ended by the inputs' fault, the data read are a front of those of the files, and their full blocks
 -- begin the walk's stream. Nothing that was read stops the walk.
@@ -85,12 +116,14 @@ abbrev pub judged_at : FeedEnd → Place → ℕ
 judged_at ReadFault at = opened_at at
 judged_at end at = at.file + 1
 
--- the same where these are told, and no file before that of the place stops the walk
+-- the same where these are told; the place is at a file of its transfer, and no file before that stops the walk
 pub record HasEnded (plan : Plan) (told : Told) (at : Place) (before : List (List ℕ))
     (current : List ℕ) (room : ℕ) (end : FeedEnd) : Type 0 where
   pub passed : NoStopBefore plan told at.file
   pub ends : (files : List (List ℕ)) → AreToldTo (judged_at end at) told plan files →
       EndsReading (stream_of plan files) at before current room end
+  pub inside : IsAtFile plan at
+  pub begin : DataBegin plan told at before current
 
 -- a file was opened at a place: the data read stay, or reading ended there
 abbrev pub OpensTo : Plan → Place → Told → Told → Result (Unit {0}) FeedEnd → Type 0

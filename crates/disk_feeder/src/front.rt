@@ -2,9 +2,9 @@
 ghost use Rattle.std.specs.Prelude.{◌≡◌, ◌+◌, ◌-◌, ◌≤◌, length, take, Some, Ok, Err, MatchResult, IfOk, IfErr, OnOk, OnErr, IsOk, IsErr};
 ghost use Rattle.std.specs.Option.{ForSome};
 ghost use Rattle.psr_base.specs.Inputs.{HasReadFrom};
-ghost use Rattle.psr_base.specs.Told.{OfFile, left_to_read, opened, moved_by, filled_by, BreaksWithin};
+ghost use Rattle.psr_base.specs.Told.{OfFile, left_to_read, history, opened, moved_by, filled_by, BreaksWithin};
 ghost use Rattle.dada_model.specs.Fields.{HeaderText, header_of};
-ghost use Rattle.disk_feeder.specs.Front.{HasReadPart, IsFrontRead, IsFailure, StopsHeader, front_of, judged_after, BreaksAt, FailsUntold};
+ghost use Rattle.disk_feeder.specs.Front.{HasReadPart, IsFrontRead, IsFailure, StopsHeader, judged_after, ReadsHeader, BreaksHeader, FailsUntold};
 ghost use Rattle.stream_model.specs.Walk.{data_of};
 
 use dada_header::{Header, HeaderFault};
@@ -59,6 +59,7 @@ fn read_front<I: Inputs>(inputs: &mut I, space: &mut [u8]) -> Result<usize, Fail
         → I.told inputs.new ≡ moved_by h.size (I.told inputs.old))) }
     ensures broke { OnErr result (ForSome (left_to_read (I.told inputs.old)) (λ file.
         BreaksWithin (judged_after file) (I.told inputs.old) (I.told inputs.new))) }
+    ensures earlier { (I.told inputs.new).earlier ≡ (I.told inputs.old).earlier }
     ensures inputs { HasReadFrom I.told I.is_calm I.faults (IsErr result) inputs.old inputs.new }
     ensures is_open { I.is_open inputs.new }
     ensures serves { I.is_calm inputs.old → IsOk result }
@@ -86,8 +87,9 @@ fn open_front<I: Inputs>(inputs: &mut I, name: &str, space: &mut [u8]) -> Result
     ensures whole { OnOk result (OfFile (I.told inputs.old) name.now (λ file.
         (h : HeaderText) → header_of file ≡ Ok h
         → I.told inputs.new ≡ moved_by h.size (opened name.now (I.told inputs.old)))) }
-    ensures broke { OnErr result (OfFile (I.told inputs.old) name.now (λ file.
-        BreaksAt name.now file (I.told inputs.old) (I.told inputs.new))) }
+    ensures earlier { OnOk result ((I.told inputs.new).earlier ≡ history (I.told inputs.old)) }
+    ensures broke { OnErr result
+        (BreaksHeader name.now (I.told inputs.old) (I.told inputs.new)) }
     ensures inputs { HasReadFrom I.told I.is_calm I.faults (IsErr result) inputs.old inputs.new }
     ensures is_open { OnOk result (I.is_open inputs.new) }
     ensures serves { I.is_calm inputs.old
@@ -112,10 +114,10 @@ pub(crate) fn read_header<I: Inputs>(
         (λ file. header_of file ≡ Ok header.new)) }
     ensures left { OnOk result (OfFile (I.told inputs.old) name.now
         (λ file. left_to_read (I.told inputs.new) ≡ Some (data_of file))) }
-    ensures read { OnOk result (OfFile (I.told inputs.old) name.now (λ file.
-        I.told inputs.new ≡ moved_by (front_of file) (opened name.now (I.told inputs.old)))) }
-    ensures broke { IfErr result (λ stop. IsFailure stop → OfFile (I.told inputs.old) name.now
-        (λ file. BreaksAt name.now file (I.told inputs.old) (I.told inputs.new))) }
+    ensures read { OnOk result
+        (ReadsHeader name.now (I.told inputs.old) (I.told inputs.new)) }
+    ensures broke { IfErr result (λ stop. IsFailure stop
+        → BreaksHeader name.now (I.told inputs.old) (I.told inputs.new)) }
     ensures stopped { IfErr result (λ stop. OfFile (I.told inputs.old) name.now
         (λ file. StopsHeader file stop)) }
     ensures inputs { HasReadFrom I.told I.is_calm I.faults (result ≡ Err HeaderStop.Failed)

@@ -31,8 +31,8 @@ pub fn headers_are_first<I>()
 }
 
 /// If a fault of the inputs ended a feeder, nothing that was read stops the walk of its files, and the full blocks that
-/// it sealed are those of the data that were read. If it came to a file that could not be opened after only the files
-/// before it were read, it still says so.
+/// it sealed are those of the data that were read, which begin with the data of the files before the fault. If it came
+/// to a file that could not be opened after only the files before it were read, it still says so.
 pub fn faults_leave<I>()
     ensures { FaultsLeave I }
 {}

@@ -1,11 +1,11 @@
 //! The data of the files, one transfer after another.
 ghost use Rattle.std.specs.Prelude.{◌≡◌, ◌≢◌, ◌≤◌, ◌<◌, ◌+◌, ◌^◌, ℕ, true, false, length, Some, None, Ok, Err, IfOk, IfErr, OnOk, MatchResult, slice_get};
 ghost use Rattle.psr_base.specs.Inputs.{HasReadFrom};
-ghost use Rattle.psr_base.specs.Told.{OfFile, left_to_read, opened, moved_by};
+ghost use Rattle.psr_base.specs.Told.{OfFile, left_to_read};
 ghost use Rattle.dada_model.specs.Fields.{header_of};
 ghost use Rattle.stream_model.specs.Walk.{data_of};
 ghost use Rattle.stream_model.specs.WalkLaws.{AreStarts};
-ghost use Rattle.disk_feeder.specs.Front.{front_of, BreaksAt, FailsUntold};
+ghost use Rattle.disk_feeder.specs.Front.{ReadsHeader, BreaksHeader, FailsUntold};
 ghost use Rattle.disk_feeder.specs.Plan.{IsPlace, begin_at};
 
 use crate::answers::{FeedEnd, FeedFault, HeaderCause};
@@ -116,13 +116,11 @@ impl<'a> Source<'a> {
             (HasHeaderAt self.new transfer)) }
         ensures left { OnOk result (OfFile (I.told inputs.old) (first_name self.old transfer)
             (λ file. left_to_read (I.told inputs.new) ≡ Some (data_of file))) }
-        ensures read { OnOk result (OfFile (I.told inputs.old) (first_name self.old transfer)
-            (λ file. I.told inputs.new ≡ moved_by (front_of file)
-            (opened (first_name self.old transfer) (I.told inputs.old)))) }
+        ensures read { OnOk result (ReadsHeader (first_name self.old transfer)
+            (I.told inputs.old) (I.told inputs.new)) }
         ensures broke { result ≡ Err FeedFault.ReadFault
-            → OfFile (I.told inputs.old) (first_name self.old transfer)
-            (λ file. BreaksAt (first_name self.old transfer) file (I.told inputs.old)
-            (I.told inputs.new)) }
+            → BreaksHeader (first_name self.old transfer) (I.told inputs.old)
+            (I.told inputs.new) }
         ensures refused { IfErr result (λ fault. NamesFile fault
             (begin_at self.old.starts.now (length self.old.names.now) transfer)
             × OfFile (I.told inputs.old) (first_name self.old transfer) (λ file. RefusesFirst file
@@ -241,13 +239,10 @@ impl<'a> Source<'a> {
             (λ file. header_of file ≡ Ok self.new.later)) }
         ensures left { OnOk result (OfFile (I.told inputs.old) (current_name self.old)
             (λ file. left_to_read (I.told inputs.new) ≡ Some (data_of file))) }
-        ensures read { OnOk result (OfFile (I.told inputs.old) (current_name self.old)
-            (λ file. I.told inputs.new ≡ moved_by (front_of file)
-            (opened (current_name self.old) (I.told inputs.old)))) }
-        ensures broke { result ≡ Err FeedEnd.ReadFault
-            → OfFile (I.told inputs.old) (current_name self.old)
-            (λ file. BreaksAt (current_name self.old) file (I.told inputs.old)
+        ensures read { OnOk result (ReadsHeader (current_name self.old) (I.told inputs.old)
             (I.told inputs.new)) }
+        ensures broke { result ≡ Err FeedEnd.ReadFault
+            → BreaksHeader (current_name self.old) (I.told inputs.old) (I.told inputs.new) }
         ensures stopped { IfErr result (λ end. ComesEarly (plan_of self.old) self.old.place end
             × OfFile (I.told inputs.old) (current_name self.old)
             (λ file. RefusesText file self.old.place.file end)) }

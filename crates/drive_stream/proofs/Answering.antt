@@ -22,10 +22,10 @@ use Rattle.disk_feeder.specs.Feeding.{EndIs}
 use Rattle.disk_feeder.specs.declared.place.Place.{Place}
 use Rattle.disk_feeder.specs.Plan.{AreTold, AreToldAt, IsFirstFile, opened_at}
 use Rattle.disk_feeder.specs.Reading.{judged_at}
-use Rattle.run_stop.specs.declared.stop.Stop.TheVariants as halts
-use Rattle.run_stop.specs.Conversions.{stop_of_feed}
-use Rattle.run_stop.specs.Ends.{AcceptedIsNotRefused}
-use Rattle.run_stop.specs.Runs.{RecordingAlone, RefusesFirstHeader, stop_of_walk, stream_for}
+use Rattle.run_outcome.specs.declared.stop.Stop.TheVariants as halts
+use Rattle.run_outcome.specs.Conversions.{stop_of_feed}
+use Rattle.run_outcome.specs.Ends.{AcceptedIsNotRefused}
+use Rattle.run_outcome.specs.Runs.{RecordingAlone, RefusesFirstHeader, stop_of_walk, stream_for}
 use Rattle.search_opening.specs.Early.{SaysEarly}
 use Rattle.drive_stream.specs.declared.stop.StreamStop.{StreamStop}
 use Rattle.drive_stream.specs.declared.stop.StreamStop.TheVariants.{Run}
@@ -60,10 +60,7 @@ whole_is bytes limit at is = ap (end_of bytes limit) is
 -- the stop at the end that a stop of the walk gives
 walk_end : (bytes limit : ℕ) (at : WalkStop) → stop_of_feed (end_of bytes limit at) ≡ stop_of_walk limit at
 walk_end bytes limit walk.Whole = refl
-walk_end bytes limit (walk.BadText file refusal) = refl
-walk_end bytes limit (walk.BadFields file fault) = refl
-walk_end bytes limit (walk.Gap file expected found) = refl
-walk_end bytes limit (walk.TooLong file) = refl
+walk_end bytes limit at = refl
 
 -- data that all came are taken, or refused
 whole_stops : {F : Type 0} (bytes : ℕ) (ending : Ending F) (stop : Option (StreamStop F)) →
@@ -80,41 +77,23 @@ early_stops : {F : Type 0} (end : FeedEnd) (ending : Ending F) (stop : Option (S
     (stop ≡ as_run (stop_of_feed end)) ⊎ IsFromOutside stop
 early_stops (Whole bytes) ending stop is early = absurd (early bytes refl)
 early_stops ReadFault ending stop is early = inr (fault_outside stop (says_failed ReadFault ending stop is refl))
-early_stops (BadHeader file cause) All stop is early = absurd is
-early_stops (BadHeader file cause) (Refused refusal) stop is early = absurd is
 early_stops (BadHeader file cause) Early stop is early = inl is
-early_stops (BadHeader file cause) (Failed phase) stop is early = absurd is
-early_stops (Gap file expected found) All stop is early = absurd is
-early_stops (Gap file expected found) (Refused refusal) stop is early = absurd is
 early_stops (Gap file expected found) Early stop is early = inl is
-early_stops (Gap file expected found) (Failed phase) stop is early = absurd is
-early_stops (TooLong limit) All stop is early = absurd is
-early_stops (TooLong limit) (Refused refusal) stop is early = absurd is
 early_stops (TooLong limit) Early stop is early = inl is
-early_stops (TooLong limit) (Failed phase) stop is early = absurd is
+early_stops end ending stop is early = absurd is
 
 -- where the walk of the files is whole, all data came, or the inputs failed
 whole_or_fault : (w : FileStream) (size : ℕ) (blocks : List Entry) (end : FeedEnd) → EndIs w size blocks end →
     walk_stop w ≡ walk.Whole → ((bytes : ℕ) × (end ≡ Whole bytes)) ⊎ (end ≡ ReadFault)
 whole_or_fault w size blocks ReadFault at whole = inr refl
 whole_or_fault w size blocks (Whole bytes) at whole = inl (bytes, refl)
-whole_or_fault w size blocks (BadHeader file cause) at whole =
-    inl (_, at.is ∙ whole_is _ w.max_bytes (walk_stop w) whole)
-whole_or_fault w size blocks (Gap file expected found) at whole =
-    inl (_, at.is ∙ whole_is _ w.max_bytes (walk_stop w) whole)
-whole_or_fault w size blocks (TooLong limit) at whole = inl (_, at.is ∙ whole_is _ w.max_bytes (walk_stop w) whole)
+whole_or_fault w size blocks end at whole = inl (_, at.is ∙ whole_is _ w.max_bytes (walk_stop w) whole)
 
 -- an end that isn't a fault of the inputs is that of the walk
 walk_or_fault : (w : FileStream) (size : ℕ) (blocks : List Entry) (end : FeedEnd) → EndIs w size blocks end →
     (stop_of_feed end ≡ stop_of_walk w.max_bytes (walk_stop w)) ⊎ (end ≡ ReadFault)
 walk_or_fault w size blocks ReadFault at = inr refl
-walk_or_fault w size blocks (Whole bytes) at =
-    inl (ap stop_of_feed at.is ∙ walk_end _ w.max_bytes (walk_stop w))
-walk_or_fault w size blocks (BadHeader file cause) at =
-    inl (ap stop_of_feed at.is ∙ walk_end _ w.max_bytes (walk_stop w))
-walk_or_fault w size blocks (Gap file expected found) at =
-    inl (ap stop_of_feed at.is ∙ walk_end _ w.max_bytes (walk_stop w))
-walk_or_fault w size blocks (TooLong limit) at = inl (ap stop_of_feed at.is ∙ walk_end _ w.max_bytes (walk_stop w))
+walk_or_fault w size blocks end at = inl (ap stop_of_feed at.is ∙ walk_end _ w.max_bytes (walk_stop w))
 
 -- how many files judge an end, at most
 judged_most : (end : FeedEnd) (at : Place) (file : ℕ) → at.file ≤ file → (k : ℕ) → k < judged_at end at → k < file + 1
@@ -127,10 +106,7 @@ judged_most ReadFault at file is k below = opened_most at.is_open refl
     opened_most false open_is =
         let here : opened_at at ≡ at.file = ap (λ (b : Bool). if b then at.file + 1 else at.file) open_is in
         omega (arith, here, below, is)
-judged_most (Whole bytes) at file is k below = omega (arith, is, below)
-judged_most (BadHeader number cause) at file is k below = omega (arith, is, below)
-judged_most (Gap number expected found) at file is k below = omega (arith, is, below)
-judged_most (TooLong limit) at file is k below = omega (arith, is, below)
+judged_most end at file is k below = omega (arith, is, below)
 
 -- ---- the first file
 
@@ -199,15 +175,7 @@ module _ {F : Type 0} (block : Observation → ℕ) (takes : Observation → Hea
       (first_refused s one told files are file cause says.1))
   early_walked files are walked (Run halts.Memory) is says = inr (memory_outside stop is)
   early_walked files are walked (Run halts.ReadFault) is says = inr (fault_outside stop is)
-  early_walked files are walked (Run halts.Words) is says = absurd says.0
-  early_walked files are walked (Run (halts.Value opt)) is says = absurd says.0
-  early_walked files are walked (Run (halts.Plan cause)) is says = absurd says.0
-  early_walked files are walked (Run (halts.Recording cause)) is says = absurd says.0
-  early_walked files are walked (Run (halts.Gap file expected found)) is says = absurd says.0
-  early_walked files are walked (Run (halts.TooLong limit)) is says = absurd says.0
-  early_walked files are walked (Run (halts.TooMany count limit)) is says = absurd says.0
-  early_walked files are walked (Run halts.SinkFault) is says = absurd says.0
-  early_walked files are walked (Run halts.FileFault) is says = absurd says.0
+  early_walked files are walked what is says = absurd says.0
 
   -- and taken
   early_taken : (files : List (List ℕ)) → AreToldAt (IsFirstFile s.starts (length s.names)) told s.names files →
@@ -238,15 +206,7 @@ module _ {F : Type 0} (block : Observation → ℕ) (takes : Observation → Hea
       by (Run (halts.Header k other)) is says = inl (k, other, is)
       by (Run halts.Memory) is says = inr (memory_outside stop is)
       by (Run halts.ReadFault) is says = inr (fault_outside stop is)
-      by (Run halts.Words) is says = absurd says.0
-      by (Run (halts.Value opt)) is says = absurd says.0
-      by (Run (halts.Plan c)) is says = absurd says.0
-      by (Run (halts.Recording c)) is says = absurd says.0
-      by (Run (halts.Gap k expected found)) is says = absurd says.0
-      by (Run (halts.TooLong limit)) is says = absurd says.0
-      by (Run (halts.TooMany count limit)) is says = absurd says.0
-      by (Run halts.SinkFault) is says = absurd says.0
-      by (Run halts.FileFault) is says = absurd says.0
+      by what is says = absurd says.0
 
   pub refusal_answered : EndsStream block takes refuses leaves s told before after stop → (files : List (List ℕ)) →
       AreToldAt (IsFirstFile s.starts (length s.names)) told s.names files → AreWalked (stream_for s files) →

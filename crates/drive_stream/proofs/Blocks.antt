@@ -6,7 +6,7 @@ use Rattle.ring_blocks.specs.declared.Entry.{Entry}
 use Rattle.stream_model.specs.Blocks.{joined_bytes, joined_data, full_entries, whole_stream, abandoned_stream, blocks_before_stop, cut_entry}
 use Rattle.stream_model.specs.BlockLaws.{BytesAreJoined}
 use Rattle.disk_feeder.specs.declared.answers.FeedEnd.{FeedEnd}
-use Rattle.disk_feeder.specs.declared.answers.FeedEnd.TheVariants.{Whole, ReadFault, BadHeader, Gap, TooLong}
+use Rattle.disk_feeder.specs.declared.answers.FeedEnd.TheVariants.{ReadFault}
 use Rattle.disk_feeder.specs.declared.answers.Handed.{Handed}
 use Rattle.disk_feeder.specs.declared.due.Due.{Due}
 use Rattle.disk_feeder.specs.declared.due.Due.TheVariants.{Full, Last, Stopped}
@@ -105,14 +105,10 @@ cut_last size max_bytes before current blocks e is =
 
 ended_cut : (s : Stream) (told : Told) (headers blocks : List Entry) (e : Entry) (end : Option FeedEnd) →
     end ≡ Some ReadFault → FeedsTo s told headers (blocks ++ e ∷ []) end → e ≡ cut_entry
-ended_cut s told headers blocks e None is feeds = absurd cc
 ended_cut s told headers blocks e (Some ReadFault) is feeds =
     cut_last (length s.block.items) (plan_of s.source).max_bytes feeds.ended.before feeds.ended.current blocks e
     feeds.ended.sealed.0
-ended_cut s told headers blocks e (Some (Whole bytes)) is feeds = absurd cc
-ended_cut s told headers blocks e (Some (BadHeader file cause)) is feeds = absurd cc
-ended_cut s told headers blocks e (Some (Gap file expected found)) is feeds = absurd cc
-ended_cut s told headers blocks e (Some (TooLong limit)) is feeds = absurd cc
+ended_cut s told headers blocks e end is feeds = absurd cc
 
 pub never_cut : {I : Type 0} (f : Feeder I) (told : Told) (blocks : List Entry) (handed : Handed) →
     FeederHands told f (blocks ++ handed_entry handed (block_of f) ∷ []) → has_end f ≡ Some ReadFault →

@@ -15,10 +15,10 @@ use Rattle.disk_feeder.specs.declared.answers.FeedEnd.TheVariants.{Whole, ReadFa
 use Rattle.disk_feeder.specs.Feeding.{EndIs, IsWalkEnd}
 use Rattle.disk_feeder.specs.Plan.{AreTold, IsFirstFile}
 use Rattle.disk_feeder.specs.Reading.{judged_at}
-use Rattle.run_stop.specs.Runs.{stream_for}
+use Rattle.run_outcome.specs.Runs.{stream_for}
 use Rattle.search_opening.specs.Settings.{OfRun}
 use Rattle.drive_stream.specs.declared.stop.StreamStop.{StreamStop}
-use Rattle.drive_stream.specs.Endings.{Ending, All, Early, Failed, Refused, Midway, AtEnd, AtStop}
+use Rattle.drive_stream.specs.Endings.{Ending, All, Early, Failed, Refused, AtStop}
 use Rattle.drive_stream.specs.Opening.{IsOfOne}
 use Rattle.drive_stream.specs.Outcome.{EndsFed, EndsStream, OfHead}
 use Rattle.drive_stream.specs.Stops.{IsStopOf}
@@ -31,26 +31,12 @@ ends_all : {F : Type 0} (end : FeedEnd) (ending : Ending F) (stop : Option (Stre
     IsStopOf end ending stop → stop ≡ None → (bytes : ℕ) × (end ≡ Whole bytes) × (ending ≡ All)
 ends_all (Whole bytes) All stop is none = (bytes, refl, refl)
 ends_all (Whole bytes) (Refused refusal) stop is none = absurd cc
-ends_all (Whole bytes) Early stop is none = absurd is
-ends_all (Whole bytes) (Failed phase) stop is none = absurd is
-ends_all ReadFault All stop is none = absurd is
-ends_all ReadFault (Refused refusal) stop is none = absurd is
 ends_all ReadFault Early stop is none = absurd cc
-ends_all ReadFault (Failed Midway) stop is none = absurd is
-ends_all ReadFault (Failed AtEnd) stop is none = absurd is
 ends_all ReadFault (Failed AtStop) stop is none = absurd cc
-ends_all (BadHeader file cause) All stop is none = absurd is
-ends_all (BadHeader file cause) (Refused refusal) stop is none = absurd is
 ends_all (BadHeader file cause) Early stop is none = absurd cc
-ends_all (BadHeader file cause) (Failed phase) stop is none = absurd is
-ends_all (Gap file expected found) All stop is none = absurd is
-ends_all (Gap file expected found) (Refused refusal) stop is none = absurd is
 ends_all (Gap file expected found) Early stop is none = absurd cc
-ends_all (Gap file expected found) (Failed phase) stop is none = absurd is
-ends_all (TooLong limit) All stop is none = absurd is
-ends_all (TooLong limit) (Refused refusal) stop is none = absurd is
 ends_all (TooLong limit) Early stop is none = absurd cc
-ends_all (TooLong limit) (Failed phase) stop is none = absurd is
+ends_all end ending stop is none = absurd is
 
 module _ (join : BytesAreJoined) (walked : WalkJoinsData) {F : Type 0} (block : Observation → ℕ)
     (takes : Observation → HeaderText → Type 0)

@@ -3,7 +3,7 @@ use Rattle.std.proofs.Common.{◌≡◌, ◌≢◌, ℕ, ◌+◌, ◌<◌, List,
 use Rattle.std.specs.Prelude.{◌⊎◌, min, slice_index_or, IsSome}
 use mathlib.Core.List.{IsPrefix}
 use Rattle.psr_base.specs.Inputs.{HasReadFrom}
-use Rattle.psr_base.specs.Told.{Told}
+use Rattle.psr_base.specs.Told.{Told, history}
 use Rattle.psr_base.specs.Written.{SinkSeen}
 use Rattle.dada_model.specs.Fields.{HeaderText}
 use Rattle.dada_model.specs.Observation.{Observation}
@@ -21,15 +21,16 @@ use Rattle.disk_feeder.specs.declared.feeder.Feeder.{Feeder}
 use Rattle.disk_feeder.specs.declared.stream.Stream.{Stream}
 use Rattle.disk_feeder.specs.Ends.{end_of}
 use Rattle.disk_feeder.specs.Feeder.{HasPlan, FeederFaultless, FeederMisses, FeederRead, FeederSince, FeederUnopened, has_end, place_at, plan_at, block_size}
-use Rattle.disk_feeder.specs.Feeding.{EndIs, FeedsTo, HasEndedAs, IsCutAt, SealedAs, StopsWalkAt}
-use Rattle.disk_feeder.specs.History.{BreaksIf, IsShut, file_name}
+use Rattle.disk_feeder.specs.Feeding.{EndIs, FeedsTo, HasEndedAs, IsCutAt, IsCutPast, SealedAs, StopsWalkAt}
+use Rattle.disk_feeder.specs.History.{BreaksIf, IsShut, file_name, read_before}
 use Rattle.disk_feeder.specs.Filling.{HoldsAll}
 use Rattle.disk_feeder.specs.Handing.{FeederHands}
 use Rattle.disk_feeder.specs.Laws.{FaultsLeave, FeedersBegin}
 use Rattle.disk_feeder.specs.Plan.{Plan, stream_of, AreTold, IsAmong, IsFirstFile, opened_at}
 use Rattle.disk_feeder.specs.Reading.{judged_at}
-use Rattle.run_stop.specs.Runs.{stream_for}
-use Rattle.run_stop.specs.declared.stop.Stop.TheVariants as halts
+use Rattle.run_outcome.specs.Runs.{plan_for, stream_for}
+use Rattle.run_outcome.specs.declared.stop.Stop.TheVariants as halts
+use Rattle.search_opening.specs.Ended.{CutsStayTold}
 use Rattle.search_opening.specs.Settings.{OfRun, OfRunFirsts}
 use Rattle.drive_stream.specs.declared.stop.StreamStop.{StreamStop}
 use Rattle.drive_stream.specs.declared.stop.StreamStop.TheVariants.{Run}
@@ -54,20 +55,10 @@ pub failed_reading : {F : Type 0} (end : FeedEnd) (ending : Ending F) (stop : Op
 failed_reading ReadFault ending stop is failed = refl
 failed_reading (Whole bytes) All stop is failed = absurd cc
 failed_reading (Whole bytes) (Refused refusal) stop is failed = absurd cc
-failed_reading (Whole bytes) Early stop is failed = absurd is
-failed_reading (Whole bytes) (Failed phase) stop is failed = absurd is
-failed_reading (BadHeader file cause) All stop is failed = absurd is
-failed_reading (BadHeader file cause) (Refused refusal) stop is failed = absurd is
 failed_reading (BadHeader file cause) Early stop is failed = absurd cc
-failed_reading (BadHeader file cause) (Failed phase) stop is failed = absurd is
-failed_reading (Gap file expected found) All stop is failed = absurd is
-failed_reading (Gap file expected found) (Refused refusal) stop is failed = absurd is
 failed_reading (Gap file expected found) Early stop is failed = absurd cc
-failed_reading (Gap file expected found) (Failed phase) stop is failed = absurd is
-failed_reading (TooLong limit) All stop is failed = absurd is
-failed_reading (TooLong limit) (Refused refusal) stop is failed = absurd is
 failed_reading (TooLong limit) Early stop is failed = absurd cc
-failed_reading (TooLong limit) (Failed phase) stop is failed = absurd is
+failed_reading end ending stop is failed = absurd is
 
 pub says_failed : {F : Type 0} (end : FeedEnd) (ending : Ending F) (stop : Option (StreamStop F)) →
     IsStopOf end ending stop → end ≡ ReadFault → stop ≡ Some (Run halts.ReadFault)
@@ -85,54 +76,26 @@ says_failed (TooLong limit) ending stop is failed = absurd cc
 -- and it never says that there was no memory
 pub no_memory : {F : Type 0} (end : FeedEnd) (ending : Ending F) (stop : Option (StreamStop F)) →
     IsStopOf end ending stop → stop ≡ Some (Run halts.Memory) → ⊥
-no_memory ReadFault All stop is failed = absurd is
-no_memory ReadFault (Refused refusal) stop is failed = absurd is
 no_memory ReadFault Early stop is failed = absurd cc
-no_memory ReadFault (Failed Midway) stop is failed = absurd is
-no_memory ReadFault (Failed AtEnd) stop is failed = absurd is
 no_memory ReadFault (Failed AtStop) stop is failed = absurd cc
 no_memory (Whole bytes) All stop is failed = absurd cc
 no_memory (Whole bytes) (Refused refusal) stop is failed = absurd cc
-no_memory (Whole bytes) Early stop is failed = absurd is
-no_memory (Whole bytes) (Failed phase) stop is failed = absurd is
-no_memory (BadHeader file cause) All stop is failed = absurd is
-no_memory (BadHeader file cause) (Refused refusal) stop is failed = absurd is
 no_memory (BadHeader file cause) Early stop is failed = absurd cc
-no_memory (BadHeader file cause) (Failed phase) stop is failed = absurd is
-no_memory (Gap file expected found) All stop is failed = absurd is
-no_memory (Gap file expected found) (Refused refusal) stop is failed = absurd is
 no_memory (Gap file expected found) Early stop is failed = absurd cc
-no_memory (Gap file expected found) (Failed phase) stop is failed = absurd is
-no_memory (TooLong limit) All stop is failed = absurd is
-no_memory (TooLong limit) (Refused refusal) stop is failed = absurd is
 no_memory (TooLong limit) Early stop is failed = absurd cc
-no_memory (TooLong limit) (Failed phase) stop is failed = absurd is
+no_memory end ending stop is failed = absurd is
 
 -- the program refuses data at their end alone
 refused_at_end : {F : Type 0} (end : FeedEnd) (ending : Ending F) (stop : Option (StreamStop F)) (refusal : F) →
     IsStopOf end ending stop → stop ≡ Some (stops.Refused refusal) → ending ≡ Refused refusal
 refused_at_end (Whole bytes) All stop refusal is refused = absurd cc
 refused_at_end (Whole bytes) (Refused other) stop refusal is refused = cc
-refused_at_end (Whole bytes) Early stop refusal is refused = absurd is
-refused_at_end (Whole bytes) (Failed phase) stop refusal is refused = absurd is
-refused_at_end ReadFault All stop refusal is refused = absurd is
-refused_at_end ReadFault (Refused other) stop refusal is refused = absurd is
 refused_at_end ReadFault Early stop refusal is refused = absurd cc
-refused_at_end ReadFault (Failed Midway) stop refusal is refused = absurd is
-refused_at_end ReadFault (Failed AtEnd) stop refusal is refused = absurd is
 refused_at_end ReadFault (Failed AtStop) stop refusal is refused = absurd cc
-refused_at_end (BadHeader file cause) All stop refusal is refused = absurd is
-refused_at_end (BadHeader file cause) (Refused other) stop refusal is refused = absurd is
 refused_at_end (BadHeader file cause) Early stop refusal is refused = absurd cc
-refused_at_end (BadHeader file cause) (Failed phase) stop refusal is refused = absurd is
-refused_at_end (Gap file expected found) All stop refusal is refused = absurd is
-refused_at_end (Gap file expected found) (Refused other) stop refusal is refused = absurd is
 refused_at_end (Gap file expected found) Early stop refusal is refused = absurd cc
-refused_at_end (Gap file expected found) (Failed phase) stop refusal is refused = absurd is
-refused_at_end (TooLong limit) All stop refusal is refused = absurd is
-refused_at_end (TooLong limit) (Refused other) stop refusal is refused = absurd is
 refused_at_end (TooLong limit) Early stop refusal is refused = absurd cc
-refused_at_end (TooLong limit) (Failed phase) stop refusal is refused = absurd is
+refused_at_end end ending stop refusal is refused = absurd is
 
 -- ---- the end of a feeder
 
@@ -145,20 +108,14 @@ ended_as s told headers blocks end (Some other) is feeds =
 limit_is : (plan : Plan) (size : ℕ) (before : List (List ℕ)) (current : List ℕ) (headers blocks : List Entry)
     (end : FeedEnd) → SealedAs plan size before current headers blocks end → (limit : ℕ) → end ≡ TooLong limit →
     limit ≡ plan.max_bytes
-limit_is plan size before current headers blocks (Whole bytes) sealed limit is = absurd cc
-limit_is plan size before current headers blocks ReadFault sealed limit is = absurd cc
-limit_is plan size before current headers blocks (BadHeader file cause) sealed limit is = absurd cc
-limit_is plan size before current headers blocks (Gap file expected found) sealed limit is = absurd cc
 limit_is plan size before current headers blocks (TooLong other) sealed limit is =
     let same : other ≡ limit = cc in sym same ∙ sealed.3
+limit_is plan size before current headers blocks end sealed limit is = absurd cc
 
 pub whole_stop : (bytes : ℕ) (stop : walk.WalkStop) (count most : ℕ) → Whole bytes ≡ end_of count most stop →
     stop ≡ walk.Whole
 whole_stop bytes walk.Whole count most is = refl
-whole_stop bytes (walk.BadText file refusal) count most is = absurd cc
-whole_stop bytes (walk.BadFields file fault) count most is = absurd cc
-whole_stop bytes (walk.Gap file expected found) count most is = absurd cc
-whole_stop bytes (walk.TooLong file) count most is = absurd cc
+whole_stop bytes stop count most is = absurd cc
 
 -- ---- one transfer
 
@@ -407,10 +364,10 @@ module _ {I S F : Type 0} (told : I → Told) (is_open is_calm : I → Type 0) (
     }
 
     -- what a fault of the inputs left
-    pub breaks_data : FaultsLeave I → FeederRead before (told f.inputs.now) f → (blocks : List Entry) →
+    pub breaks_data : FaultsLeave I → CutsStayTold → FeederRead before (told f.inputs.now) f → (blocks : List Entry) →
         FeederHands (told j.inputs.now) j blocks → has_end j ≡ Some ReadFault →
         BreaksData s (is_calm f.inputs.now) before (told j.inputs.now) (place_at j) at.size blocks
-    breaks_data leave read blocks hands broken =
+    breaks_data leave cuts read blocks hands broken =
         let now = told j.inputs.now in
         let place = place_at j in
         let left = leave j before now hands.0 blocks hands.1 broken (kept.reads_on before read) in
@@ -419,6 +376,8 @@ module _ {I S F : Type 0} (told : I → Told) (is_open is_calm : I → Type 0) (
         let Stood : List (List ℕ) → FileStream → Type 0 = λ names g. BreaksIf place.is_open names g before now place in
         let Shut : List (List ℕ) → FileStream → Type 0 = λ names g.
         IsShut names g before now place.transfer place.file place.since in
+        let Through : List (List ℕ) → ℕ → FileStream → Type 0 = λ names k g.
+        IsPrefix (history (read_before names g k before)) (history now) in
         let shut : is_calm f.inputs.now → FeederUnopened before now j =
         λ calm. kept.unopened calm before read (λ due. absurd (fine due)) in
         record {
@@ -431,6 +390,13 @@ module _ {I S F : Type 0} (told : I → Told) (is_open is_calm : I → Type 0) (
               (λ starts count k. IsAmong (place.file + 1) starts count k) (Stood s.names)
               (λ files are. subst (λ names. Stood names (stream_of (plan_at j) files)) now_plan.files
               (left.stood files are));
+          past = subst (λ n. IsCutPast (plan_for s) before place n blocks) now_plan.block
+              (cuts (plan_at j) (plan_for s) before now place (block_size j) blocks now_plan.files now_plan.transfers
+              now_plan.limit still left.past);
+          through = λ k below. of_plan j s at.size now_plan before now still
+              (λ starts count i. IsAmong k starts count i) (Through s.names k)
+              (λ files are. subst (λ names. Through names k (stream_of (plan_at j) files)) now_plan.files
+              (left.through k below files are));
           missing = λ calm some. missed calm broken some;
           shut = λ calm. left.shut (shut calm);
           unopened = λ calm. of_plan j s at.size now_plan before now still
@@ -510,23 +476,23 @@ module _ {I S F : Type 0} {told : I → Told} {is_open is_calm : I → Type 0} {
       inr (inr (ends_broken told is_open is_calm faults block takes opens leaves s one f j o stream at w.kept before
       same begin join walked seen after stop w))
 
-  pub all_breaks : FaultsLeave I →
+  pub all_breaks : FaultsLeave I → CutsStayTold →
       WritesTo told is_calm faults (opens o) (leaves o) f j stream seen after stop
       ⊎ BreaksWriting told is_calm faults (opens o) (leaves o) f j stream seen after stop →
       stop ≡ Some (Run halts.ReadFault) → (before : Told) → (told f.inputs.now).bytes_under ≡ before.bytes_under →
       FeederRead before (told f.inputs.now) f →
       BreaksFed block takes leaves s (is_calm f.inputs.now) before (told j.inputs.now) seen after
   unfolding ends_fed
-  all_breaks leave (inl w) failed before same read =
+  all_breaks leave cuts (inl w) failed before same read =
       let fed = ends_fed told is_open is_calm faults block takes opens leaves s one f j o stream at w.kept before same
       seen after stop w in
       let left = breaks_data told is_open is_calm faults block takes opens leaves s one f j o stream at w.kept before
-      same leave read w.blocks w.hands (w.ended ∙ ap Some (failed_reading w.end w.ending stop w.is failed)) in
+      same leave cuts read w.blocks w.hands (w.ended ∙ ap Some (failed_reading w.end w.ending stop w.is failed)) in
       let Both : Option (StreamStop F) → Type 0 = λ x. (e : EndsFed block takes leaves s before seen after x)
       × BreaksData s (is_calm f.inputs.now) before (told j.inputs.now) e.at e.size e.blocks in
       let both = subst Both failed (fed, left) in
       record { fed = both.0; read = both.1 }
-  all_breaks leave (inr w) failed before same read = absurd (other stop w.is failed)
+  all_breaks leave cuts (inr w) failed before same read = absurd (other stop w.is failed)
     where
       other : (stop : Option (StreamStop F)) → stop ≡ Some (Run halts.SinkFault) →
           stop ≡ Some (Run halts.ReadFault) → ⊥

@@ -13,10 +13,10 @@ use Rattle.disk_feeder.specs.declared.feeder.Feeder.{Feeder}
 use Rattle.disk_feeder.specs.declared.place.Place.{Place}
 use Rattle.disk_feeder.specs.Feeder.{HasPlan, IsBegun, IsCutTo, headers_of}
 use Rattle.disk_feeder.specs.Plan.{Plan}
-use Rattle.run_stop.specs.declared.stop.Stop.{Stop}
-use Rattle.run_stop.specs.declared.stop.Stop.TheVariants.{Memory, ReadFault}
-use Rattle.run_stop.specs.Firsts.{ReadsFirsts, first_name}
-use Rattle.run_stop.specs.Runs.{OfEachFirst, RecordingAlone, first_observation, stream_for}
+use Rattle.run_outcome.specs.declared.stop.Stop.{Stop}
+use Rattle.run_outcome.specs.declared.stop.Stop.TheVariants.{Memory, ReadFault}
+use Rattle.run_outcome.specs.Firsts.{ReadsFirsts, first_name}
+use Rattle.run_outcome.specs.Runs.{OfEachFirst, RecordingAlone, first_observation, stream_for}
 use Rattle.search_opening.specs.Begun.{HasFirsts}
 use Rattle.search_opening.specs.Early.{EarlyStopsStand}
 use Rattle.search_opening.specs.Ended.{FirstsStayTold}

@@ -6,11 +6,11 @@ use Rattle.psr_base.specs.Written.{SinkSeen}
 use Rattle.dada_model.specs.Fields.{HeaderText}
 use Rattle.stream_model.specs.Blocks.{joined_bytes}
 use Rattle.disk_feeder.specs.declared.answers.FeedEnd.{FeedEnd}
-use Rattle.disk_feeder.specs.declared.answers.FeedEnd.TheVariants.{Whole, ReadFault, BadHeader, Gap, TooLong}
+use Rattle.disk_feeder.specs.declared.answers.FeedEnd.TheVariants.{Whole, ReadFault}
 use Rattle.disk_feeder.specs.declared.feeder.Feeder.{Feeder}
 use Rattle.disk_feeder.specs.Feeder.{FeederFaultless, has_end}
 use Rattle.disk_feeder.specs.Handing.{FeederHands}
-use Rattle.run_stop.specs.declared.stop.Stop.TheVariants.{SinkFault}
+use Rattle.run_outcome.specs.declared.stop.Stop.TheVariants.{SinkFault}
 use Rattle.drive_stream.specs.declared.stop.StreamStop.{StreamStop}
 use Rattle.drive_stream.specs.declared.stop.StreamStop.TheVariants.{Run}
 use Rattle.drive_stream.specs.Endings.{Failed, Midway, AtEnd}
@@ -23,10 +23,7 @@ use Rattle.drive_stream.proofs.Blocks.{keeps_none, no_bytes}
 -- a call fails at the end of all data only where all came
 end_is_whole : (end : FeedEnd) → phase_at end ≡ AtEnd → (bytes : ℕ) × (end ≡ Whole bytes)
 end_is_whole (Whole bytes) is = (bytes, refl)
-end_is_whole ReadFault is = absurd cc
-end_is_whole (BadHeader file cause) is = absurd cc
-end_is_whole (Gap file expected found) is = absurd cc
-end_is_whole (TooLong limit) is = absurd cc
+end_is_whole end is = absurd cc
 
 some_same : (a b : FeedEnd) → Some a ≡ Some b → a ≡ b
 some_same a b is = cc

@@ -10,8 +10,8 @@ use Rattle.search_words.specs.Settings.{RunSeen}
 use Rattle.disk_feeder.specs.declared.feeder.Feeder.{Feeder}
 use Rattle.disk_feeder.specs.Feeder.{FeederRead}
 use Rattle.disk_feeder.specs.Filling.{HoldsAll}
-use Rattle.run_stop.specs.declared.stop.Stop.{Stop}
-use Rattle.run_stop.specs.declared.stop.Stop.TheVariants as halts
+use Rattle.run_outcome.specs.declared.stop.Stop.{Stop}
+use Rattle.run_outcome.specs.declared.stop.Stop.TheVariants as halts
 use Rattle.drive_stream.specs.declared.stop.StreamStop.{StreamStop}
 use Rattle.drive_stream.specs.declared.stop.StreamStop.TheVariants.{Run, Refused}
 use Rattle.drive_stream.specs.Endings.{Ending}
@@ -115,6 +115,8 @@ left_broken told is_calm faults block takes leaves s seen after old start mid ne
               passed = b.passed;
               cut = b.cut;
               stood = b.stood;
+              past = b.past;
+              through = b.through;
               missing = λ calm. b.missing (calmer calm);
               shut = λ calm. b.shut (calmer calm);
               unopened = λ calm. b.unopened (calmer calm);

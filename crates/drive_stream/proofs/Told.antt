@@ -10,7 +10,7 @@ use Rattle.disk_feeder.specs.declared.feeder.Feeder.{Feeder}
 use Rattle.disk_feeder.specs.Feeder.{HasPlan, plan_at}
 use Rattle.disk_feeder.specs.Plan.{stream_of, AreTold, AreToldAt}
 use Rattle.disk_feeder.specs.Reading.{NoStopBefore}
-use Rattle.run_stop.specs.Runs.{stream_for}
+use Rattle.run_outcome.specs.Runs.{stream_for}
 use Rattle.search_opening.specs.Settings.{OfRun, OfRunAt, PassesRunTo}
 use Rattle.drive_stream.specs.Outcome.{BeginsWith, OfHead, first_header}
 

@@ -9,8 +9,8 @@ use Rattle.search_words.specs.Settings.{RunSeen}
 use Rattle.stream_model.specs.Walk.{FileStream, WalkStop, Whole, transfer_data, stop_at, walk_stop}
 use Rattle.stream_model.specs.WalkLaws.{AreWalked}
 use Rattle.disk_feeder.specs.declared.answers.HeaderCause.{HeaderCause}
-use Rattle.run_stop.specs.declared.stop.Stop.TheVariants.{Header, Memory, ReadFault, SinkFault}
-use Rattle.run_stop.specs.Runs.{RefusesFirstHeader, stop_of_walk}
+use Rattle.run_outcome.specs.declared.stop.Stop.TheVariants.{Header, Memory, ReadFault, SinkFault}
+use Rattle.run_outcome.specs.Runs.{RefusesFirstHeader, stop_of_walk}
 use Rattle.search_opening.specs.Settings.{OfRun, OfRunFirsts, OfRunTo}
 use Rattle.drive_stream.specs.declared.stop.StreamStop.{StreamStop}
 use Rattle.drive_stream.specs.declared.stop.StreamStop.TheVariants.{Run}

@@ -8,7 +8,7 @@ use Rattle.search_words.specs.Settings.{RunSeen, RunInRange}
 use Rattle.disk_feeder.specs.declared.feeder.Feeder.{Feeder}
 use Rattle.disk_feeder.specs.Feeder.{HasPlan, HasOpenFile, FeederFaultless, FeederRead, has_end}
 use Rattle.disk_feeder.specs.Handing.{FeederHands}
-use Rattle.run_stop.specs.declared.stop.Stop.TheVariants.{Memory}
+use Rattle.run_outcome.specs.declared.stop.Stop.TheVariants.{Memory}
 use Rattle.search_opening.specs.Early.{LeavesEarly}
 use Rattle.search_opening.specs.Settings.{OfRunFirsts}
 use Rattle.drive_stream.specs.declared.stop.StreamStop.{StreamStop}

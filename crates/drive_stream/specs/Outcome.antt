@@ -8,7 +8,7 @@ use mathlib.Core.List.{IsPrefix}
 use Rattle.dada_model.specs.Bounds.{ObservationInRange}
 use Rattle.dada_model.specs.Fields.{HeaderText, header_of}
 use Rattle.dada_model.specs.Observation.{Observation}
-use Rattle.psr_base.specs.Told.{Told}
+use Rattle.psr_base.specs.Told.{Told, history}
 use Rattle.psr_base.specs.Written.{SinkSeen}
 use Rattle.ring_blocks.specs.declared.Entry.{Entry}
 use Rattle.search_words.specs.Settings.{RunSeen}
@@ -20,13 +20,13 @@ use Rattle.disk_feeder.specs.declared.answers.FeedEnd.{FeedEnd}
 use Rattle.disk_feeder.specs.declared.answers.FeedEnd.TheVariants.{Whole, TooLong}
 use Rattle.disk_feeder.specs.declared.place.Place.{Place}
 use Rattle.disk_feeder.specs.Ends.{NamesPlace}
-use Rattle.disk_feeder.specs.Feeding.{EndIs, IsCutAt, StopsWalkAt}
-use Rattle.disk_feeder.specs.History.{BreaksIf, IsShut, file_name}
+use Rattle.disk_feeder.specs.Feeding.{EndIs, IsCutAt, IsCutPast, StopsWalkAt}
+use Rattle.disk_feeder.specs.History.{BreaksIf, IsShut, file_name, read_before}
 use Rattle.disk_feeder.specs.Plan.{IsAmong, opened_at}
 use Rattle.disk_feeder.specs.Reading.{judged_at}
-use Rattle.run_stop.specs.declared.stop.Stop.TheVariants.{Memory, ReadFault, SinkFault}
-use Rattle.run_stop.specs.Firsts.{BreaksFirstAt, ReadsFirsts, first_file}
-use Rattle.run_stop.specs.Runs.{OfEachFirst, RecordingAlone, first_observation}
+use Rattle.run_outcome.specs.declared.stop.Stop.TheVariants.{Memory, ReadFault, SinkFault}
+use Rattle.run_outcome.specs.Firsts.{BreaksFirstAt, ReadsFirsts, first_file}
+use Rattle.run_outcome.specs.Runs.{OfEachFirst, RecordingAlone, first_observation, plan_for}
 use Rattle.search_opening.specs.Early.{SaysEarly}
 use Rattle.search_opening.specs.First.{ComesFirst}
 use Rattle.search_opening.specs.Settings.{JudgesRun, OfRun, OfRunAt, OfRunFirsts, OfRunTo, PassesRunTo}
@@ -144,9 +144,11 @@ EndsStream block takes refuses leaves s told before after stop =
 
 -- A fault of the inputs came while data were read, at this place, whose file is there. No file before that one stops
 -- the walk, each by the files up to it. By those that were opened, nothing that was read does, and the full blocks of
--- this size are those of the data bytes that were read. Where the file at the place is told too, and the first one, it
--- was not opened or its header isn't judged, or it was read up to the place. Calm inputs could not open it, since it
--- isn't told: where those before it are, and the first one, these were read to their ends, and nothing else was.
+-- this size are those of the data bytes that were read. Where the file at the place is told too, and the first one,
+-- it was not opened or its header isn't judged, or it was read up to the place. Whether or not it is told, the full
+-- blocks are those of data that begin with the data of the files before it, as far as these are told; and where the
+-- first one is told too, these files were read to their ends before anything else. Calm inputs could not open it,
+-- since it isn't told: where those before it are, and the first one, nothing else was read.
 pub record BreaksData (s : RunSeen) (is_calm : Type 0) (before after : Told) (at : Place) (size : ℕ)
     (blocks : List Entry) : Type 0 where
   pub there : at.file < length s.names
@@ -154,6 +156,9 @@ pub record BreaksData (s : RunSeen) (is_calm : Type 0) (before after : Told) (at
   pub cut : OfRunTo (opened_at at) before s (λ w. IsCutAt w at size blocks)
   pub stood : OfRunAt (IsAmong (at.file + 1) s.starts (length s.names)) before s (λ w.
       BreaksIf at.is_open s.names w before after at)
+  pub past : IsCutPast (plan_for s) before at size blocks
+  pub through : (k : ℕ) → k ≤ at.file → OfRunAt (IsAmong k s.starts (length s.names)) before s (λ w.
+      IsPrefix (history (read_before s.names w k before)) (history after))
   pub missing : is_calm → ¬ IsSome (before.bytes_under (file_name s.names at.file))
   pub shut : is_calm → at.is_open ≡ false
   pub unopened : is_calm → OfRunAt (IsAmong at.file s.starts (length s.names)) before s (λ w.

@@ -4,9 +4,9 @@ use Rattle.std.specs.Prelude.{◌≡◌, ◌≢◌, Option, Some, None}
 use Rattle.psr_base.specs.Written.{SinkSeen}
 use Rattle.disk_feeder.specs.declared.answers.FeedEnd.{FeedEnd}
 use Rattle.disk_feeder.specs.declared.answers.FeedEnd.TheVariants as feed
-use Rattle.run_stop.specs.declared.stop.Stop.{Stop}
-use Rattle.run_stop.specs.declared.stop.Stop.TheVariants.{ReadFault, SinkFault}
-use Rattle.run_stop.specs.Conversions.{stop_of_feed}
+use Rattle.run_outcome.specs.declared.stop.Stop.{Stop}
+use Rattle.run_outcome.specs.declared.stop.Stop.TheVariants.{ReadFault, SinkFault}
+use Rattle.run_outcome.specs.Conversions.{stop_of_feed}
 use Rattle.drive_stream.specs.declared.stop.StreamStop.{StreamStop}
 use Rattle.drive_stream.specs.declared.stop.StreamStop.TheVariants as stops
 use Rattle.drive_stream.specs.Endings.{Ending, Phase, All, Early, Failed, Refused, AtEnd, AtStop}

@@ -12,7 +12,7 @@ use Rattle.disk_feeder.specs.declared.answers.FeedEnd.TheVariants.{Whole, ReadFa
 use Rattle.disk_feeder.specs.declared.feeder.Feeder.{Feeder}
 use Rattle.disk_feeder.specs.Feeder.{FeederFaultless, has_end}
 use Rattle.disk_feeder.specs.Handing.{FeederHands}
-use Rattle.run_stop.specs.declared.stop.Stop.TheVariants.{SinkFault}
+use Rattle.run_outcome.specs.declared.stop.Stop.TheVariants.{SinkFault}
 use Rattle.drive_stream.specs.declared.stop.StreamStop.{StreamStop}
 use Rattle.drive_stream.specs.declared.stop.StreamStop.TheVariants.{Run}
 use Rattle.drive_stream.specs.Endings.{Ending, Phase, Failed, AtEnd}

@@ -1,7 +1,7 @@
 //! A stream is closed, once its data have ended.
 ghost use Rattle.std.specs.Prelude.{◌≡◌, ◌≢◌, ◌⊎◌, ℕ, Some, None};
 ghost use Rattle.disk_feeder.specs.declared.answers.FeedEnd.TheVariants.{Whole};
-ghost use Rattle.run_stop.specs.Conversions.{stop_of_feed};
+ghost use Rattle.run_outcome.specs.Conversions.{stop_of_feed};
 ghost use Rattle.drive_stream.specs.Streams.{IsStreaming};
 ghost use Rattle.drive_stream.specs.Stops.{Closes, BreaksClosing};
 
@@ -11,7 +11,7 @@ use crate::streaming::Streaming;
 use disk_feeder::FeedEnd;
 use obs_plan::Observation;
 use psr_base::Sink;
-use run_stop::Stop;
+use run_outcome::Stop;
 
 // Closes a stream whose data all came.
 fn close_whole<K: Sink, T: Streaming>(

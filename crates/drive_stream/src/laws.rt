@@ -4,7 +4,7 @@ ghost use Rattle.drive_stream.specs.Laws.{AcceptedGoesThrough, HeadersAreAnswere
 
 use crate::streaming::Streaming;
 // Laws: they do nothing when they run, and the proofs use what they ensure.
-use run_stop::accepted_is_not_refused;
+use run_outcome::accepted_is_not_refused;
 use stream_model::{bytes_are_joined, first_stop_counts, walk_joins_data};
 
 /// A run that came to no stop took all data.

@@ -15,12 +15,13 @@ use crate::streaming::Streaming;
 use crate::writing::write_stream;
 use disk_feeder::{Feeder, FeederSpace};
 use psr_base::{Inputs, Sink};
-use run_stop::Stop;
+use run_outcome::Stop;
 use search_words::RunSettings;
 use std::alloc::Global;
 use std::sync::Wait;
 // Laws: they do nothing when they run, and the proofs use what they ensure.
 use disk_feeder::{faults_leave, feeders_begin};
+use search_opening::cuts_stay_told;
 use stream_model::{bytes_are_joined, walk_joins_data};
 
 // Streams the data of a run of which all is opened.
@@ -60,6 +61,7 @@ fn stream_all<'a, R: Wait, I: Inputs, K: Sink, T: Streaming>(
 {
     faults_leave::<I>();
     feeders_begin::<I>();
+    cuts_stay_told();
     bytes_are_joined();
     walk_joins_data();
     let Opened {

@@ -1,5 +1,5 @@
 //! Why a run that streams its data through stopped.
-use run_stop::Stop;
+use run_outcome::Stop;
 
 /// Why a run that streams its data through ended without all that it was asked for: as any run, or since the program
 /// refuses the observation, or its data at their end.

@@ -12,7 +12,7 @@ use crate::streaming::Streaming;
 use disk_feeder::Feeder;
 use obs_plan::Observation;
 use psr_base::{Inputs, Sink};
-use run_stop::Stop;
+use run_outcome::Stop;
 use std::sync::Wait;
 
 /// Writes what a task makes of the data of a feeder, and answers why the run stops, if it does.

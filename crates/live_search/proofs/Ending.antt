@@ -5,24 +5,24 @@ use Rattle.std.proofs.lemmas.Bool.{lt-ltb}
 use Rattle.std.proofs.lemmas.Bool.Decides.{nat_tests}
 use Rattle.std.proofs.lemmas.List.Elements.{All-head, All-nil, All-tail, Contains-get_or}
 use Rattle.dada_model.specs.Observation.{Observation, edges}
-use Rattle.psr_base.specs.Written.{PiecesJoin, SinkSeen, Wrote, WroteAll, WroteFront}
+use Rattle.psr_base.specs.Written.{SinkSeen, Wrote, WroteAll, WroteFront}
 use Rattle.search_model.specs.declared.candidate.Candidate.{Candidate}
 use Rattle.search_model.specs.declared.candidate.Candidate.TheVariants.{Pulse, Fold}
 use Rattle.search_model.specs.declared.search.Search.{Search}
 use Rattle.search_model.specs.Candidates.{plain_cells, shard_part}
-use Rattle.search_model.specs.CandidateLaws.{CandidatesAreListed, IsCandidate, OneShardIsAll}
+use Rattle.search_model.specs.CandidateLaws.{CandidatesAreListed, IsCandidate}
 use Rattle.search_model.specs.Observed.{candidates_of, filterbank_of, labels_of}
 use Rattle.search_model.specs.Parts.{check_line, ends_within, first_needed, within_part}
 use Rattle.candidate_book.specs.Book.{BookContents, book_of}
 use Rattle.candidate_book.specs.Conditions.{IsSearched}
-use Rattle.search_engine.specs.Engine.{EngineState, HasFoundIn, HasFoundPart, SameShard, scope_of, spectra_fed}
-use Rattle.search_engine.specs.Laws.{PartsAreFound}
+use Rattle.search_engine.specs.Engine.{EngineState, HasFoundIn}
 use Rattle.search_engine.specs.Scope.{Scope, scope_of_part}
 use Rattle.warm_restart.specs.Counts.{greatest_count}
 use Rattle.warm_restart.specs.LastLine.{last_line}
 use Rattle.warm_restart.specs.declared.checkpoint.Checkpoint.{Checkpoint}
 use Rattle.live_search.specs.LiveText.{Layout, after_parts, counted, end_mark, layout_of, live_text, next_end, printed, pulse_lines, stopped_text, text_so_far}
-use Rattle.live_search.specs.Live.{Task, WasFed, last_count, last_pulses, settings_of, so_far}
+use Rattle.live_search.specs.Live.{HasEnded, Task, last_count, last_pulses, settings_of, so_far}
+use Rattle.live_search.specs.Used.{UsedLaws}
 use Rattle.live_search.specs.declared.live.LiveSearch.{LiveSearch}
 use Rattle.live_search.proofs.Counts.{at_later}
 use Rattle.live_search.proofs.Lasting.{count_left, last_part, lines_left, stopped_first, stopped_last, whole_text}
@@ -64,19 +64,10 @@ end_is spectra pulses =
     let no : nat_lt spectra spectra ≡ false = grind (arith, nat_tests) in
     ap (λ b. cond b (check_line spectra pulses) (end_mark spectra pulses)) no
 
--- ---- a search whose engine ended
+-- ---- a search whose data ended
 
-pub record HasEnded (o : Observation) (t : Task) (bytes : List ℕ) (w : LiveSearch) (e : EngineState) (spectra : ℕ)
-    : Type 0 where
-  pub was : WasFed o t bytes w
-  pub same : SameShard e w.engine
-  pub scope : scope_of e ≡ scope_of w.engine
-  pub found : HasFoundPart o bytes e
-  pub count : spectra ≡ spectra_fed e
-
-module _ (found : PartsAreFound) (one : OneShardIsAll) (listed : CandidatesAreListed) (join : PiecesJoin)
-    (o : Observation) (t : Task) (bytes : List ℕ) (w : LiveSearch) (e : EngineState) (spectra : ℕ)
-    (ended : HasEnded o t bytes w e spectra) where
+module _ (laws : UsedLaws) {o : Observation} {t : Task} {bytes : List ℕ} {w now : LiveSearch} {spectra : ℕ}
+    (ended : HasEnded o t bytes w now spectra) where
   abbrev pub layout : Layout
   layout = layout_of o t.search t.every
 
@@ -92,9 +83,8 @@ module _ (found : PartsAreFound) (one : OneShardIsAll) (listed : CandidatesAreLi
   abbrev at : Checkpoint
   at = after_parts layout t.from list n
 
-  -- the search with its engine as it is now
-  abbrev pub now : LiveSearch
-  now = record w { engine = e }
+  abbrev e : EngineState
+  e = now.engine
 
   spectra_is : spectra ≡ (filterbank_of o bytes).spectra
   spectra_is = ended.count ∙ ended.found.all
@@ -137,7 +127,7 @@ module _ (found : PartsAreFound) (one : OneShardIsAll) (listed : CandidatesAreLi
   part = within_part w.from.place spectra list
 
   few : (filterbank_of o bytes).spectra ≤ greatest_count
-  few = few_spectra found one o t ended.was.task w.from.place bytes w.engine ended.was.searches ended.was.fed
+  few = few_spectra laws ended.was.task ended.was.searches ended.was.fed
 
   book_is : e.book ≡ book_of t.search.max_candidates part
   book_is =
@@ -151,15 +141,15 @@ module _ (found : PartsAreFound) (one : OneShardIsAll) (listed : CandidatesAreLi
       let scope = ended.scope ∙ s.scope
       ∙ ap (λ k. scope_of_part o.channels k w.from.place greatest_count) first in
       let later = place_later in
-      found.ended o bytes bytes w.engine e s.begins.needed w.from.place greatest_count
+      laws.found.ended o bytes bytes w.engine e s.begins.needed w.from.place greatest_count
       (subst Off (sym search) ended.was.task.unfolded) (omega (arith, early, later)) ended.was.fed ended.same
       (subst (λ (x : Scope). HasFoundIn o x bytes e) scope ended.found)
       ∙ ap (λ (x : Search). book_of x.max_candidates (shard_part x e.shard
       (within_part w.from.place greatest_count (candidates_of o x bytes)))) search
       ∙ ap (λ k. book_of t.search.max_candidates (shard_part (settings_of t.search) k
       (within_part w.from.place greatest_count (candidates_of o (settings_of t.search) bytes)))) shard
-      ∙ ap (book_of t.search.max_candidates) (one_part one o t.search w.from.place greatest_count bytes)
-      ∙ ap (book_of t.search.max_candidates) (all_end listed o t.search bytes w.from.place greatest_count few)
+      ∙ ap (book_of t.search.max_candidates) (one_part laws.one o t.search w.from.place greatest_count bytes)
+      ∙ ap (book_of t.search.max_candidates) (all_end laws.listed o t.search bytes w.from.place greatest_count few)
       ∙ ap (λ k. book_of t.search.max_candidates (within_part w.from.place k list)) (sym spectra_is)
 
   limit_is : e.book.limit ≡ t.search.max_candidates
@@ -169,19 +159,21 @@ module _ (found : PartsAreFound) (one : OneShardIsAll) (listed : CandidatesAreLi
   own_book = book_is ∙ ap (λ k. book_of k part) (sym limit_is)
 
   pub searched : All IsSearched e.book.kept
-  searched = kept_searched listed o t.search bytes ended.was.task.range e.book t.search.max_candidates w.from.place
+  searched = kept_searched laws.listed o t.search bytes ended.was.task.range e.book t.search.max_candidates w.from.place
       spectra book_is
 
   -- what is written last
   lines_are : last_pulses o now spectra part ≡ lines_left layout some t.from list w.due n spectra
   lines_are =
-      ap (λ k. cond w.due [] (pulse_lines (labels_of o) k spectra part)) limit_is
+      ap (λ x. last_pulses o x spectra part) ended.state
+      ∙ ap (λ k. cond w.due [] (pulse_lines (labels_of o) k spectra part)) limit_is
       ∙ ap (λ (c : Checkpoint). cond w.due [] (pulse_lines (labels_of o)
       t.search.max_candidates spectra (within_part c.place spectra list))) is_at
 
   count_is : last_count now part ≡ count_left layout some t.from list w.due n spectra
   count_is =
-      ap (λ k. cond w.due w.from.pulses (counted w.from.pulses
+      ap (λ x. last_count x part) ended.state
+      ∙ ap (λ k. cond w.due w.from.pulses (counted w.from.pulses
       (printed k part))) limit_is
       ∙ ap (λ (c : Checkpoint). cond w.due c.pulses (counted c.pulses
       (printed t.search.max_candidates (within_part c.place spectra list)))) is_at
@@ -204,7 +196,7 @@ module _ (found : PartsAreFound) (one : OneShardIsAll) (listed : CandidatesAreLi
       WroteAll (whole_text layout some t.from list mark spectra) start new
   last_wrote mark start old middle new text lines line =
       subst (λ xs. WroteAll xs start new) (last_is mark)
-      (join.joins _ _ start old new text (join.joins _ _ old middle new lines line))
+      (laws.join.joins _ _ start old new text (laws.join.joins _ _ old middle new lines line))
 
   pub last_broke : (mark : ℕ → ℕ → List ℕ) (start old middle new : SinkSeen) →
       WroteAll (so_far o t bytes bytes) start old → WroteAll (last_pulses o now spectra part) old middle →
@@ -212,31 +204,40 @@ module _ (found : PartsAreFound) (one : OneShardIsAll) (listed : CandidatesAreLi
       WroteFront (whole_text layout some t.from list mark spectra) start new
   last_broke mark start old middle new text lines line =
       subst (λ xs. WroteFront xs start new) (last_is mark)
-      (join.stops _ _ start old new text (join.stops _ _ old middle new lines line))
+      (laws.join.stops _ _ start old new text (laws.join.stops _ _ old middle new lines line))
 
   pub lines_broke : (mark : ℕ → ℕ → List ℕ) (start old new : SinkSeen) →
       WroteAll (so_far o t bytes bytes) start old → WroteFront (last_pulses o now spectra part) old new →
       WroteFront (whole_text layout some t.from list mark spectra) start new
   lines_broke mark start old new text lines =
       subst (λ xs. WroteFront xs start new) (last_is mark)
-      (join.stops _ _ start old new text (join.breaks_off _ _ old new lines))
+      (laws.join.stops _ _ start old new text (laws.join.breaks_off _ _ old new lines))
 
   -- ---- data that stopped
 
-  pub stops_last : (w.due ≡ false → w.from.place < spectra) → whole_text layout some t.from list check_line spectra
+  -- its place, and whether its CHECK line is due, as they were
+  was_due : now.due ≡ w.due
+  was_due = ap (λ (x : LiveSearch). x.due) ended.state
+
+  was_place : now.from.place ≡ w.from.place
+  was_place = ap (λ (x : LiveSearch). x.from.place) ended.state
+
+  pub stops_last : (now.due ≡ false → now.from.place < spectra) → whole_text layout some t.from list check_line spectra
       ≡ stopped_text layout t.from (filterbank_of o bytes).spectra list
   stops_last past =
       let place = ap (λ (c : Checkpoint). c.place) is_at in
       stopped_last layout some t.from list n spectra w.due stands.0 stands.1
-      (λ off. let more = past off in omega (arith, more, place))
+      (λ off. let more = past (was_due ∙ off) in omega (arith, more, place, was_place))
       ∙ ap (λ k. stopped_text layout t.from k list) spectra_is
 
-  pub stops_first : w.due ≡ false → spectra ≤ w.from.place →
+  pub stops_first : now.due ≡ false → spectra ≤ now.from.place →
       so_far o t bytes bytes ≡ stopped_text layout t.from (filterbank_of o bytes).spectra list
   stops_first off early =
       let place = ap (λ (c : Checkpoint). c.place) is_at in
-      was_text ∙ ap (state_text layout t.from list n) off
-      ∙ stopped_first layout some t.from list n spectra (omega (arith, early, place)) (stands.2 off) stands.0
+      let was_off = sym was_due ∙ off in
+      was_text ∙ ap (state_text layout t.from list n) was_off
+      ∙ stopped_first layout some t.from list n spectra (omega (arith, early, place, was_place)) (stands.2 was_off)
+      stands.0
       ∙ ap (λ k. stopped_text layout t.from k list) spectra_is
 
   -- ---- the answers of the last calls
@@ -277,7 +278,7 @@ module _ (found : PartsAreFound) (one : OneShardIsAll) (listed : CandidatesAreLi
   stopped = stopped_text layout t.from (filterbank_of o bytes).spectra list
 
   pub stop_ok : {T E : Type 0} (pulses : ℕ) (start old middle new : SinkSeen) (r : Result T E) →
-      (w.due ≡ false → w.from.place < spectra) →
+      (now.due ≡ false → now.from.place < spectra) →
       pulses ≡ last_count now part → WroteAll (so_far o t bytes bytes) start old →
       WroteAll (last_pulses o now spectra part) old middle → Wrote (check_line spectra pulses) middle new r →
       Wrote stopped start new r
@@ -294,7 +295,7 @@ module _ (found : PartsAreFound) (one : OneShardIsAll) (listed : CandidatesAreLi
         (subst (λ k. WroteFront (check_line spectra k) middle new) is line.front));
   }
 
-  pub stop_err : {T E : Type 0} (e : E) (start old new : SinkSeen) → (w.due ≡ false → w.from.place < spectra) →
+  pub stop_err : {T E : Type 0} (e : E) (start old new : SinkSeen) → (now.due ≡ false → now.from.place < spectra) →
       WroteAll (so_far o t bytes bytes) start old → WroteFront (last_pulses o now spectra part) old new →
       Wrote {T = T} {E = E} stopped start new (Err e)
   stop_err e start old new past text lines = record {
@@ -302,7 +303,7 @@ module _ (found : PartsAreFound) (one : OneShardIsAll) (listed : CandidatesAreLi
     front = subst (λ xs. WroteFront xs start new) (stops_last past) (lines_broke check_line start old new text lines);
   }
 
-  pub stop_none : {T E : Type 0} (x : T) (start old : SinkSeen) → w.due ≡ false → spectra ≤ w.from.place →
+  pub stop_none : {T E : Type 0} (x : T) (start old : SinkSeen) → now.due ≡ false → spectra ≤ now.from.place →
       WroteAll (so_far o t bytes bytes) start old → Wrote {T = T} {E = E} stopped start old (Ok x)
   stop_none x start old off early text = record {
     all = subst (λ xs. WroteAll xs start old) (stops_first off early) text;

@@ -9,11 +9,11 @@ use Rattle.search_model.specs.Observed.{candidates_of, filterbank_of}
 use Rattle.search_model.specs.Parts.{ends_within, first_needed, within_part}
 use Rattle.candidate_book.specs.Book.{book_of}
 use Rattle.search_engine.specs.Engine.{EngineState, HoldsNoFullChunk, StandsForPart, chunk_of, searched_to}
-use Rattle.search_engine.specs.Laws.{PartsAreFound}
 use Rattle.search_engine.specs.Scope.{Scope, scope_of_part, spectrum_size}
 use Rattle.warm_restart.specs.Counts.{greatest_count}
 use Rattle.live_search.specs.LiveText.{next_end}
 use Rattle.live_search.specs.Live.{AreSteps, IsTask, SearchesFrom, Task, settings_of}
+use Rattle.live_search.specs.Used.{UsedLaws}
 use Rattle.live_search.proofs.Sizes.{size_some, spectra_within}
 
 -- ---- numbers
@@ -72,8 +72,8 @@ one_part one o s place until xs =
 
 -- ---- an engine
 
-module _ (found : PartsAreFound) (one : OneShardIsAll) (o : Observation) (t : Task) (task : IsTask t) (place : ℕ)
-    (bytes : List ℕ) (e : EngineState) (s : SearchesFrom o t place e) (stands : StandsForPart o bytes e) where
+module _ (laws : UsedLaws) {o : Observation} {t : Task} {place : ℕ} {bytes : List ℕ} {e : EngineState} (task : IsTask t)
+    (s : SearchesFrom o t place e) (stands : StandsForPart o bytes e) where
   first_is : e.sums.pulses.sought.first ≡ s.first
   first_is = ap (λ (c : Scope). c.sought.first) s.scope
 
@@ -95,7 +95,7 @@ module _ (found : PartsAreFound) (one : OneShardIsAll) (o : Observation) (t : Ta
   fed_is full =
       let chunk : chunk_of e.search ≡ 512 = ap chunk_of s.search in
       let n = (filterbank_of o bytes).spectra in
-      found.chunks o bytes e greatest_count limit_is few_bytes stands full
+      laws.found.chunks o bytes e greatest_count limit_is few_bytes stands full
       ∙ ap (λ a. (n - a) - (n - a) % chunk_of e.search) first_is
       ∙ ap (λ c. (n - s.first) - (n - s.first) % c) chunk
 
@@ -135,11 +135,11 @@ module _ (found : PartsAreFound) (one : OneShardIsAll) (o : Observation) (t : Ta
       let Off : Search → Type 0 = λ x. x.fold_max < x.fold_min in
       let first : s.first ≡ first_needed e.search s.begins.needed =
       s.begins.is ∙ ap (λ (x : Search). first_needed x s.begins.needed) (sym s.search) in
-      found.book o bytes more e s.begins.needed place greatest_count (subst Off (sym s.search) off)
+      laws.found.book o bytes more e s.begins.needed place greatest_count (subst Off (sym s.search) off)
       (omega (arith, early, later)) few
       (s.scope ∙ ap (λ n. scope_of_part o.channels n place greatest_count) first) numbers stands
       ∙ ap (λ (x : Search). book_of x.max_candidates (shard_part x e.shard
       (within_part place (searched_to e) (candidates_of o x (bytes ++ more))))) s.search
       ∙ ap (λ k. book_of t.search.max_candidates (shard_part (settings_of t.search) k
       (within_part place (searched_to e) (candidates_of o (settings_of t.search) (bytes ++ more))))) s.shard
-      ∙ ap (book_of t.search.max_candidates) (one_part one o t.search place (searched_to e) (bytes ++ more))
+      ∙ ap (book_of t.search.max_candidates) (one_part laws.one o t.search place (searched_to e) (bytes ++ more))

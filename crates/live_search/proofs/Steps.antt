@@ -1,24 +1,23 @@
 -- What a step of a search leaves, and what it writes.
-use Rattle.std.proofs.Common.{◌≡◌, ℕ, suc, ◌+◌, ◌*◌, ◌/◌, ◌≤◌, ◌<◌, ◌++◌, ◌⊎◌, ◌&&◌, inl, inr, Bool, true, false, cond, not, List, [], max, refl, sym, ◌∙◌, ap, subst, append-nil, append_assoc, length-append, arith}
+use Rattle.std.proofs.Common.{◌≡◌, ℕ, suc, ◌+◌, ◌*◌, ◌/◌, ◌≤◌, ◌<◌, ◌++◌, ◌⊎◌, ◌&&◌, inl, inr, Bool, true, false, cond, not, List, [], max, take, refl, sym, ◌∙◌, ap, subst, append-nil, append_assoc, length-append, arith}
 use Rattle.std.specs.Prelude.{All, nat_lt}
 use Rattle.std.proofs.lemmas.Bool.{cases_lt, lt-ltb}
-use Rattle.std.proofs.lemmas.List.Elements.{All-append, All-nil}
+use Rattle.std.proofs.lemmas.List.Elements.{All-append, All-nil, All-take}
 use Rattle.dada_model.specs.Observation.{Observation}
-use Rattle.psr_base.specs.Written.{PiecesJoin, SinkSeen, WroteAll, WroteFront}
+use Rattle.psr_base.specs.Written.{SinkSeen, WroteAll, WroteFront}
 use Rattle.search_model.specs.declared.candidate.Candidate.{Candidate}
-use Rattle.search_model.specs.CandidateLaws.{OneShardIsAll}
 use Rattle.search_model.specs.Observed.{candidates_of, filterbank_of, labels_of}
 use Rattle.search_model.specs.Parts.{check_line, within_part}
 use Rattle.candidate_book.specs.Book.{book_of}
-use Rattle.search_engine.specs.Engine.{EngineState, HoldsNoFullChunk, SameShard, StandsForPart, scope_of, searched_to}
-use Rattle.search_engine.specs.Laws.{PartsAreFound}
+use Rattle.search_engine.specs.Engine.{EngineState, searched_to}
 use Rattle.search_engine.specs.Scope.{scope_from, scope_of_part}
 use Rattle.spectra_rows.specs.Unpacking.{Unpacking}
 use Rattle.warm_restart.specs.Counts.{greatest_count}
 use Rattle.warm_restart.specs.declared.checkpoint.Checkpoint.{Checkpoint}
 use Rattle.live_search.specs.LiveText.{Layout, after_parts, counted, layout_of, lines_at, next_after, next_end, part_at, printed, pulse_lines}
-use Rattle.live_search.specs.Live.{AreSteps, HasBegun, SearchesFrom, Task, WasFed, due_line, so_far}
+use Rattle.live_search.specs.Live.{AreSteps, Came, HasBegun, SearchesFrom, Task, WasFed, due_line, so_far}
 use Rattle.live_search.specs.declared.live.LiveSearch.{LiveSearch}
+use Rattle.live_search.specs.Used.{UsedLaws}
 use Rattle.live_search.proofs.Counts.{at_later, at_next, next_past, whole}
 use Rattle.live_search.proofs.Reaching.{book_is, end_steps, few_spectra, reaches, stays_before}
 use Rattle.live_search.proofs.Sizes.{spectra_grow}
@@ -57,19 +56,14 @@ due_more l some from list n false c at is more = append-nil (state_text l from l
 
 -- ---- the engine took the next bytes
 
-pub record Came (o : Observation) (t : Task) (before piece : List ℕ) (w : LiveSearch) (e : EngineState)
-    : Type 0 where
-  pub was : WasFed o t before w
-  pub same : SameShard e w.engine
-  pub scope : scope_of e ≡ scope_of w.engine
-  pub running : e.has_ended ≡ false
-  pub stands : StandsForPart o (before ++ piece) e
-  pub full : HoldsNoFullChunk e
-  pub within : (filterbank_of o (before ++ piece)).spectra ≤ w.until
-  pub numbers : All (λ byte. byte < 256) piece
+module _ (laws : UsedLaws) {o : Observation} {t : Task} {before bytes : List ℕ} {count : ℕ} {w mid : LiveSearch}
+    (came : Came o t before bytes count w mid) where
+  abbrev pub piece : List ℕ
+  piece = take count bytes
 
-module _ (found : PartsAreFound) (one : OneShardIsAll) (o : Observation) (t : Task) (before piece : List ℕ)
-    (w : LiveSearch) (e : EngineState) (came : Came o t before piece w e) where
+  abbrev e : EngineState
+  e = mid.engine
+
   abbrev pub layout : Layout
   layout = layout_of o t.search t.every
 
@@ -86,8 +80,12 @@ module _ (found : PartsAreFound) (one : OneShardIsAll) (o : Observation) (t : Ta
   abbrev pub have : ℕ
   have = (filterbank_of o (before ++ piece)).spectra
 
-  abbrev pub due : Bool
+  abbrev due : Bool
   due = w.due && not (w.due && nat_lt w.from.place have)
+
+  -- the search once the line that was due is written
+  abbrev pub after : LiveSearch
+  after = record w { engine = e; due = due }
 
   grows : had ≤ have
   grows =
@@ -119,7 +117,8 @@ module _ (found : PartsAreFound) (one : OneShardIsAll) (o : Observation) (t : Ta
   at_is : (more : List ℕ) → All (λ byte. byte < 256) more →
       w.from ≡ after_parts layout t.from (candidates_of o t.search (before ++ piece ++ more)) n
   at_is more numbers =
-      came.was.at (piece ++ more) (All-append (λ byte. byte < 256) piece more came.numbers numbers)
+      came.was.at (piece ++ more)
+      (All-append (λ byte. byte < 256) piece more (All-take (λ byte. byte < 256) count bytes came.numbers) numbers)
       ∙ ap (λ xs. after_parts layout t.from (candidates_of o t.search xs) n) (sym (append_assoc before piece more))
 
   place_later : t.from.place ≤ w.from.place
@@ -134,13 +133,13 @@ module _ (found : PartsAreFound) (one : OneShardIsAll) (o : Observation) (t : Ta
   until_steps = subst AreSteps (sym until_is) (end_steps t.every w.from.place came.was.task.every.even)
 
   few_have : have ≤ greatest_count
-  few_have = few_spectra found one o t came.was.task w.from.place (before ++ piece) e searches came.stands
+  few_have = few_spectra laws came.was.task searches came.stands
 
   reach : have ≡ w.until → searched_to e ≡ w.until
   reach here =
       let later = place_later in
       let past = place_before in
-      reaches found one o t came.was.task w.from.place (before ++ piece) e searches came.stands came.full
+      reaches laws came.was.task searches came.stands came.full
       w.until until_steps (omega (arith, later, past)) here
 
   pub early_if : searched_to e < w.until → have < w.until
@@ -156,14 +155,14 @@ module _ (found : PartsAreFound) (one : OneShardIsAll) (o : Observation) (t : Ta
     | inl less ↦
         let later = place_later in
         let past = place_before in
-        let early = stays_before found one o t came.was.task w.from.place (before ++ piece) e searches came.stands
+        let early = stays_before laws came.was.task searches came.stands
         came.full w.until (omega (arith, later, past)) less in absurd (omega (arith, early, late))
     | inr more ↦ let within = came.within in omega (arith, within, more)
   ]
 
   -- ---- amid the part
 
-  pub amid_was : have < w.until → WasFed o t (before ++ piece) (record w { engine = e; due = due })
+  pub amid_was : have < w.until → WasFed o t (before ++ piece) after
   amid_was early = record {
     task = came.was.task;
     every = came.was.every;
@@ -249,7 +248,7 @@ module _ (found : PartsAreFound) (one : OneShardIsAll) (o : Observation) (t : Ta
         let later = place_later in
         let all = reach here in
         let few = few_have in
-        book_is found one o t came.was.task w.from.place (before ++ piece) e searches came.stands
+        book_is laws came.was.task searches came.stands
         (omega (arith, all, here, few)) more numbers later
         ∙ ap (λ p. book_of t.search.max_candidates (within_part w.from.place p list)) (all ∙ until_is)
         ∙ ap (λ (c : Checkpoint). book_of t.search.max_candidates (part_at layout c list)) is_at
@@ -270,18 +269,18 @@ module _ (found : PartsAreFound) (one : OneShardIsAll) (o : Observation) (t : Ta
 
     -- ---- what is written
 
-    wrote_due : PiecesJoin → (start old new : SinkSeen) →
+    wrote_due : (start old new : SinkSeen) →
         WroteAll (so_far o t (before ++ piece ++ more) before) start old → WroteAll (due_line have w) old new →
         WroteAll (state_text layout t.from list n due) start new
-    wrote_due join start old new text line =
+    wrote_due start old new text line =
         subst (λ xs. WroteAll xs start new) due_text
-        (join.joins _ _ start old new (subst (λ xs. WroteAll xs start old) was_text text) line)
+        (laws.join.joins _ _ start old new (subst (λ xs. WroteAll xs start old) was_text text) line)
 
-    pub amid_wrote : PiecesJoin → (start old new : SinkSeen) → have < w.until →
+    pub amid_wrote : (start old new : SinkSeen) → have < w.until →
         WroteAll (so_far o t (before ++ piece ++ more) before) start old → WroteAll (due_line have w) old new →
         WroteAll (so_far o t (before ++ piece ++ more) (before ++ piece)) start new
-    amid_wrote join start old new early text line =
-        subst (λ xs. WroteAll xs start new) (sym (amid_text early)) (wrote_due join start old new text line)
+    amid_wrote start old new early text line =
+        subst (λ xs. WroteAll xs start new) (sym (amid_text early)) (wrote_due start old new text line)
 
     -- the text once the part ended, of that with the line that was due
     ended_text : have ≡ w.until → state_text layout t.from list n due
@@ -293,34 +292,34 @@ module _ (found : PartsAreFound) (one : OneShardIsAll) (o : Observation) (t : Ta
         ∙ ap (λ xs. state_text layout t.from list n false ++ xs) (lines_are here)
         ∙ lines_more layout some t.from list n ∙ sym (end_text here)
 
-    pub end_wrote : PiecesJoin → (start old middle new : SinkSeen) → have ≡ w.until →
+    pub end_wrote : (start old middle new : SinkSeen) → have ≡ w.until →
         WroteAll (so_far o t (before ++ piece ++ more) before) start old → WroteAll (due_line have w) old middle →
         WroteAll (pulse_lines (labels_of o) t.search.max_candidates w.until part) middle new →
         WroteAll (so_far o t (before ++ piece ++ more) (before ++ piece)) start new
-    end_wrote join start old middle new here text line lines =
+    end_wrote start old middle new here text line lines =
         subst (λ xs. WroteAll xs start new) (ended_text here)
-        (join.joins _ _ start middle new (wrote_due join start old middle text line) lines)
+        (laws.join.joins _ _ start middle new (wrote_due start old middle text line) lines)
 
-    pub end_broke : PiecesJoin → (start old middle new : SinkSeen) → have ≡ w.until →
+    pub end_broke : (start old middle new : SinkSeen) → have ≡ w.until →
         WroteAll (so_far o t (before ++ piece ++ more) before) start old → WroteAll (due_line have w) old middle →
         WroteFront (pulse_lines (labels_of o) t.search.max_candidates w.until part) middle new →
         WroteFront (so_far o t (before ++ piece ++ more) (before ++ piece)) start new
-    end_broke join start old middle new here text line lines =
+    end_broke start old middle new here text line lines =
         subst (λ xs. WroteFront xs start new) (ended_text here)
-        (join.stops _ _ start middle new (wrote_due join start old middle text line) lines)
+        (laws.join.stops _ _ start middle new (wrote_due start old middle text line) lines)
 
-    pub due_broke : PiecesJoin → (start old new : SinkSeen) →
+    pub due_broke : (start old new : SinkSeen) →
         WroteAll (so_far o t (before ++ piece ++ more) before) start old → WroteFront (due_line have w) old new →
         WroteFront (so_far o t (before ++ piece ++ more) (before ++ piece)) start new
-    due_broke join start old new text line =
+    due_broke start old new text line =
         let front = subst (λ xs. WroteFront xs start new) due_text
-        (join.stops _ _ start old new (subst (λ xs. WroteAll xs start old) was_text text) line) in
+        (laws.join.stops _ _ start old new (subst (λ xs. WroteAll xs start old) was_text text) line) in
         elim (cases_lt have w.until) [
           | inl early ↦ subst (λ xs. WroteFront xs start new) (sym (amid_text early)) front
           | inr late ↦
               let within = came.within in
               subst (λ xs. WroteFront xs start new) (ended_text (omega (arith, within, late)))
-              (join.breaks_off _ _ start new front)
+              (laws.join.breaks_off _ _ start new front)
         ]
 
   -- ---- the next part
@@ -333,7 +332,7 @@ module _ (found : PartsAreFound) (one : OneShardIsAll) (o : Observation) (t : Ta
   same_checkpoint c d place pulses =
       ap (λ p. checkpoint p c.pulses) place ∙ ap (λ p. checkpoint d.place p) pulses
 
-  pub end_was : (pulses : ℕ) (new : LiveSearch) → HasBegun pulses (record w { engine = e; due = due }) new →
+  pub end_was : (pulses : ℕ) (new : LiveSearch) → HasBegun pulses after new →
       ((more : List ℕ) (numbers : All (λ byte. byte < 256) more) →
       pulses ≡ printed t.search.max_candidates (part more numbers)) →
       have ≡ w.until → WasFed o t (before ++ piece) new

@@ -1,6 +1,6 @@
 -- What contracts see of a search that writes while the data come.
 -- Source: this project's choice.
-use Rattle.std.specs.Prelude.{◌≡◌, ℕ, ◌+◌, ◌*◌, ◌<◌, ◌≤◌, ◌++◌, ◌&&◌, All, Bool, true, false, List, [], length, min, take, nat_lt, if◌then◌else◌}
+use Rattle.std.specs.Prelude.{◌≡◌, ℕ, ◌+◌, ◌*◌, ◌<◌, ◌≤◌, ◌++◌, ◌&&◌, All, Bool, true, false, List, [], length, min, not, take, nat_lt, if◌then◌else◌}
 use Rattle.dada_model.specs.Observation.{Observation}
 use Rattle.psr_base.specs.Written.{SinkSeen, WroteAll, WroteFront}
 use Rattle.search_model.specs.declared.candidate.Candidate.{Candidate}
@@ -8,7 +8,7 @@ use Rattle.search_model.specs.declared.search.Search.{Search}
 use Rattle.search_model.specs.Observed.{candidates_of, filterbank_of, labels_of}
 use Rattle.search_model.specs.Parts.{check_line, first_needed}
 use Rattle.search_model.specs.Search.{SettingsInRange}
-use Rattle.search_engine.specs.Engine.{EngineState, HoldsNoFullChunk, IsOpenedEngine, SameShard, StandsForPart, scope_of, searched_to}
+use Rattle.search_engine.specs.Engine.{EngineState, HasFoundPart, HoldsNoFullChunk, IsOpenedEngine, SameShard, StandsForPart, scope_of, searched_to, spectra_fed}
 use Rattle.search_engine.specs.Scope.{scope_from, scope_of_part, spectrum_size}
 use Rattle.warm_restart.specs.Checkpoint.{CanBeSaid}
 use Rattle.warm_restart.specs.Counts.{greatest_count}
@@ -125,6 +125,10 @@ abbrev pub due_line : ℕ → LiveSearch → List ℕ
 due_line spectra w =
     if is_overdue spectra w then check_line w.from.place w.from.pulses else []
 
+-- the search once the line is written
+abbrev pub after_line : ℕ → LiveSearch → LiveSearch
+after_line spectra w = record w { due = w.due && not (is_overdue spectra w) }
+
 -- the lines of the last part's pulses, unless they were written, and how many pulses are printed with them
 abbrev pub last_pulses : Observation → LiveSearch → ℕ → List Candidate → List ℕ
 last_pulses o w spectra part =
@@ -161,3 +165,29 @@ pub record IsOpenedFrom (o : Observation) (s : Search) (place : ℕ) (e : Engine
   pub begins : BeginsFor s place first
   pub scope : scope_of e ≡ scope_of_part o.channels first place greatest_count
   pub stands : StandsForPart o [] e
+
+-- ---- what the calls of the engine leave
+
+-- of the next bytes the engine took so many, none of which lies past the end of the part
+pub record Came (o : Observation) (t : Task) (before bytes : List ℕ) (count : ℕ)
+    (old new : LiveSearch) : Type 0 where
+  pub was : WasFed o t before old
+  pub state : new ≡ record old { engine = new.engine }
+  pub same : SameShard new.engine old.engine
+  pub scope : scope_of new.engine ≡ scope_of old.engine
+  pub running : new.engine.has_ended ≡ false
+  pub stands : StandsForPart o (before ++ take count bytes) new.engine
+  pub full : HoldsNoFullChunk new.engine
+  pub within : (filterbank_of o (before ++ take count bytes)).spectra ≤ old.until
+  pub most : count ≤ length bytes
+  pub numbers : All (λ byte. byte < 256) bytes
+
+-- the data ended, so many whole spectra, all of which were searched
+pub record HasEnded (o : Observation) (t : Task) (bytes : List ℕ) (old new : LiveSearch)
+    (spectra : ℕ) : Type 0 where
+  pub was : WasFed o t bytes old
+  pub state : new ≡ record old { engine = new.engine }
+  pub same : SameShard new.engine old.engine
+  pub scope : scope_of new.engine ≡ scope_of old.engine
+  pub found : HasFoundPart o bytes new.engine
+  pub count : spectra ≡ spectra_fed new.engine

@@ -1,15 +1,28 @@
 // Laws of the text, which the contracts of functions that do nothing carry. A caller whose proof needs a law calls its
 // function.
 ghost use Rattle.live_search.specs.Laws.{LiveDataGrow, LiveStopsAreSaid, LiveStopsGoOn, LiveTextsArePlain, LiveTextsGoOn, LiveTextsGrow};
+ghost use Rattle.live_search.specs.Used.{UsedLaws};
 
 use obs_plan::Observation;
 // Laws: they do nothing when they run, and the proofs use what they ensure.
 use dada_model::edges_fall;
+use psr_base::pieces_join;
+use search_engine::parts_are_found;
 use search_model::{
-    candidates_are_listed, candidates_rise, has_one_path, parts_join, paths_rise,
+    candidates_are_listed, candidates_rise, has_one_path, one_shard_is_all, parts_join, paths_rise,
     rising_lists_agree, samples_of_bytes,
 };
 use warm_restart::{lines_are_read_back, part_texts_join};
+
+// The laws of lower crates that the proofs of a search use.
+pub(crate) fn laws_hold()
+    ensures { UsedLaws }
+{
+    pieces_join();
+    parts_are_found();
+    candidates_are_listed();
+    one_shard_is_all();
+}
 
 /// The text so far is a front of all that is written once more spectra came.
 pub fn live_texts_grow()

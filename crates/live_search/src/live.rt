@@ -1,5 +1,5 @@
 // A search that writes while the data come.
-ghost use Rattle.std.specs.Prelude.{◌≡◌, ℕ, ◌+◌, ◌*◌, ◌^◌, ◌++◌, ◌≤◌, ◌<◌, [], All, List, OnOk, OnErr, IfOk, IfErr, not, ◌&&◌, true, false, None, length, take};
+ghost use Rattle.std.specs.Prelude.{◌≡◌, ℕ, ◌+◌, ◌*◌, ◌^◌, ◌++◌, ◌≤◌, ◌<◌, [], All, List, OnOk, OnErr, IfOk, IfErr, true, false, None, length, take};
 ghost use Rattle.dada_model.specs.Observation.{Observation as Described};
 ghost use Rattle.psr_base.specs.Written.{SinkSeen, Wrote, WroteAll};
 ghost use Rattle.candidate_book.specs.Book.{book_of};
@@ -13,8 +13,9 @@ ghost use Rattle.search_engine.specs.Engine.{most_fed};
 ghost use Rattle.search_engine.specs.Plan.{Explains};
 ghost use Rattle.search_engine.specs.Scope.{spectrum_size as spectrum_size_of};
 ghost use Rattle.live_search.specs.LiveText.{layout_of, live_text, stopped_text};
-ghost use Rattle.live_search.specs.Live.{BeginsFor, BrokeOff, HasBegun, IsLive, IsOpenedFrom, IsTask, Task, WasFed, WroteOn, due_line, fed_of, is_overdue, last_count, last_pulses, settings_of, so_far};
+ghost use Rattle.live_search.specs.Live.{BeginsFor, BrokeOff, Came, HasBegun, HasEnded, IsLive, IsOpenedFrom, IsTask, Task, WasFed, WroteOn, after_line, due_line, fed_of, last_count, last_pulses, settings_of, so_far};
 
+use crate::laws::laws_hold;
 use crate::lines::write_pulses;
 use candidate_book::SinkStop;
 use obs_plan::Observation;
@@ -23,10 +24,8 @@ use search_engine::{Engine, PlanFault, Scope, check_plan};
 use search_model::Search;
 use std::alloc::Global;
 use warm_restart::{Checkpoint, first_needed, write_last_line};
-// Laws: they do nothing when they run, and the proofs use what they ensure.
+// A law: it does nothing when it runs, and the proofs use what it ensures.
 use psr_base::pieces_join;
-use search_engine::parts_are_found;
-use search_model::{candidates_are_listed, one_shard_is_all};
 
 /// A part has a number of steps of so many spectra, which are searched at a time: so no chunk of them lies in two
 /// parts.
@@ -184,12 +183,8 @@ impl LiveSearch {
             → Wrote (live_text observation.now t.search t.every t.from bytes) start
             (K.seen sink.new) result }
     {
-        pieces_join();
-        parts_are_found();
-        candidates_are_listed();
-        one_shard_is_all();
-        self.engine.end();
-        let spectra = self.engine.whole_spectra();
+        laws_hold();
+        let spectra = self.end_data();
         match self.write_last(observation, spectra, sink) {
             Ok(pulses) => write_last_line(spectra, spectra, pulses, sink),
             Err(stop) => Err(stop),
@@ -207,12 +202,8 @@ impl LiveSearch {
             (filterbank_of observation.now bytes).spectra
             (candidates_of observation.now t.search bytes)) start (K.seen sink.new) result }
     {
-        pieces_join();
-        parts_are_found();
-        candidates_are_listed();
-        one_shard_is_all();
-        self.engine.end();
-        let spectra = self.engine.whole_spectra();
+        laws_hold();
+        let spectra = self.end_data();
         if self.came_no_further(spectra) {
             return Ok(());
         }
@@ -220,6 +211,16 @@ impl LiveSearch {
             Ok(pulses) => write_check(spectra, pulses, sink),
             Err(stop) => Err(stop),
         }
+    }
+
+    // Ends the data: all of them are searched. Answers how many whole spectra came.
+    fn end_data(&mut self) -> u64
+        requires { self.old.engine.has_ended ≡ false }
+        ensures ended { (o : Described) (t : Task) (bytes : List ℕ) → WasFed o t bytes self.old
+            → HasEnded o t bytes self.old self.new result }
+    {
+        self.engine.end();
+        self.engine.whole_spectra()
     }
 
     // Whether so many spectra came no further than to the place of the checkpoint, whose CHECK line is written.
@@ -293,12 +294,8 @@ impl LiveSearch {
             → WasFed observation.now t before self.old
             → BrokeOff observation.now t before bytes.now (K.seen sink.old) (K.seen sink.new)) }
     {
-        pieces_join();
-        parts_are_found();
-        candidates_are_listed();
-        one_shard_is_all();
-        let count = self.room(bytes);
-        self.engine.feed(&bytes[..count]);
+        laws_hold();
+        let count = self.take_bytes(bytes);
         let spectra = self.engine.whole_spectra();
         match self.write_due(spectra, sink) {
             Ok(()) => {}
@@ -314,6 +311,22 @@ impl LiveSearch {
             }
             Err(stop) => Err(stop),
         }
+    }
+
+    // Takes bytes up to the end of the part at most. Answers how many.
+    fn take_bytes(&mut self, bytes: &[u8]) -> usize
+        requires running { self.old.engine.has_ended ≡ false }
+        requires some { 0 < length bytes.now }
+        requires few { fed_of self.old + length bytes.now ≤ most_fed }
+        ensures some { 0 < result }
+        ensures most { result ≤ length bytes.now }
+        ensures fed { fed_of self.new ≡ fed_of self.old + result }
+        ensures came { (o : Described) (t : Task) (before : List ℕ) → WasFed o t before self.old
+            → Came o t before bytes.now result self.old self.new }
+    {
+        let count = self.room(bytes);
+        self.engine.feed(&bytes[..count]);
+        count
     }
 
     // How many of some bytes lie before the end of the part, or one.
@@ -332,8 +345,7 @@ impl LiveSearch {
 
     // Writes the CHECK line that is due, if so many spectra came, one after its place among them.
     fn write_due<K: Sink>(&mut self, spectra: u64, sink: &mut K) -> Result<(), SinkStop>
-        ensures state { OnOk result (self.new
-            ≡ record self.old { due = self.old.due && not (is_overdue spectra self.old) }) }
+        ensures state { OnOk result (self.new ≡ after_line spectra self.old) }
         ensures wrote { Wrote (due_line spectra self.old) (K.seen sink.old) (K.seen sink.new)
             result }
     {

@@ -2,7 +2,7 @@
 use psr_base::{MemFiles, MemInputs, MemSink};
 use psr_mask::run_mask_in_memory;
 use psr_search::run_in_memory;
-use run_stop::Ran;
+use run_outcome::Ran;
 use search_session::NoGate;
 use std::alloc::Global;
 use std::sync::Wait;
@@ -82,7 +82,11 @@ pub(crate) fn run_over<R: Wait>(
 ) -> Result<Ended, Fail> {
     let mut out = MemSink::open(alloc, limits.out_room, &[limits.out])?;
     let mut notes = MemSink::open(alloc, limits.note_room, &[limits.note])?;
-    let Ran { status, blocks } = run_mask_in_memory(rt, alloc, words, inputs, &mut out, &mut notes);
+    let Ran {
+        status,
+        blocks,
+        recorded: _,
+    } = run_mask_in_memory(rt, alloc, words, inputs, &mut out, &mut notes);
     Ok(Ended {
         status,
         text: text_of(alloc, &out)?,

@@ -1,15 +1,15 @@
 -- The observation of numbers that are all taken.
-use Rattle.std.proofs.Common.{◌≡◌, ℕ, ◌*◌, ◌<◌, ◌≤◌, List, [], ◌∷◌, true, ltb, refl, sym, ap, ◌∙◌, None, Ok, Err}
+use Rattle.std.proofs.Common.{◌≡◌, ℕ, ◌*◌, ◌<◌, ◌≤◌, List, [], ◌∷◌, true, ltb, refl, sym, ap, ◌∙◌, Ok, Err}
 use Rattle.std.specs.Prelude.{ℤ, pos, int_lt, unsigned_abs}
-use Rattle.std.specs.List.{AllByRecursion}
 use Rattle.std.proofs.lemmas.Bool.{lt-ltb}
 use Rattle.dada_model.specs.declared.key.Key.{Key}
 use Rattle.dada_model.specs.declared.key.Key.TheVariants.{Nchan, Nbit, Npol, Ndim, Tsamp, Freq, Bw, ObsOffset}
 use Rattle.dada_model.specs.Fields.{Field}
-use Rattle.dada_model.specs.Observation.{Observation, TooNarrow, keys, observation_in, refusal_at, too_narrow, observation_of}
+use Rattle.dada_model.specs.Observation.{Observation, TooNarrow, keys, observation_in, too_narrow, observation_of}
 use Rattle.dada_model.specs.Laws.{AcceptedByRows, HasNumberInRow}
 use Rattle.obs_plan.specs.Rows.{IsTaken}
-use Rattle.obs_plan.proofs.Refusals.{none_taken, refused_last}
+use Rattle.obs_plan.proofs.Refusals.{AreTakenAt, refused_last}
+use Rattle.obs_plan.proofs.Refusals.AreTakenAt.{no_key, past}
 
 -- the numbers of fields that are all taken
 pub record AreTaken (fields : List Field) (channels nbit npol ndim sample centre : ℕ) (bw : ℤ) (width offset : ℕ) : Type
@@ -66,33 +66,14 @@ module _ (fields : List Field) (channels nbit npol ndim sample centre : ℕ) (bw
   accepted law wide = (law fields (observed channels nbit npol sample centre bw width offset)).1
       (sym observation_is, in_row, wide)
 
-  none_refused : AllByRecursion (λ key. refusal_at fields key ≡ None) keys
-  none_refused = (
-    none_taken fields Nchan (pos channels) r.channels_taken,
-    (
-      none_taken fields Nbit (pos nbit) r.nbit_taken,
-      (
-        none_taken fields Npol (pos npol) r.npol_taken,
-        (
-          none_taken fields Ndim (pos ndim) r.ndim_taken,
-          (
-            none_taken fields Tsamp (pos sample) r.sample_taken,
-            (
-              none_taken fields Freq (pos centre) r.centre_taken,
-              (
-                none_taken fields Bw bw r.bw_taken,
-                (none_taken fields ObsOffset (pos offset) r.offset_taken, tt),
-              ),
-            ),
-          ),
-        ),
-      ),
-    ),
-  )
+  all_taken : AreTakenAt fields keys
+  all_taken =
+      past r.channels_taken (past r.nbit_taken (past r.npol_taken (past r.ndim_taken
+      (past r.sample_taken (past r.centre_taken (past r.bw_taken (past r.offset_taken no_key)))))))
 
   pub narrow : width < 1000 * channels → observation_of fields ≡ Err (TooNarrow width channels)
   narrow less =
       let test : ltb (width) (1000 * channels) ≡ true = lt-ltb (width) (1000 * channels) less in
       let last : too_narrow (observation_in fields) ≡ TooNarrow width channels ∷ [] = ap too_narrow observation_is
       ∙ rw test refl in
-      refused_last fields none_refused (TooNarrow width channels) last
+      refused_last fields all_taken (TooNarrow width channels) last

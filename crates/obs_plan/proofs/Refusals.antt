@@ -41,7 +41,7 @@ module _ (fields : List Field) (key : Key) where
       refusal_map (λ refusal. refusal ≡ outside key) (λ refusal. refusal_at fields key ≡ Some refusal)
       (λ refusal same. refused_row z e row ∙ ap Some (sym same)) fault is
 
-  pub none_taken : (z : ℤ) → IsTaken fields key z → refusal_at fields key ≡ None
+  none_taken : (z : ℤ) → IsTaken fields key z → refusal_at fields key ≡ None
   unfolding refusal_at
   none_taken z taken = rw taken.is (rw taken.in_row refl)
 
@@ -60,7 +60,17 @@ all_none : (f : Key → Option Refusal) (ks : List Key) → AllByRecursion (λ k
 all_none f [] h = refl
 all_none f (k ∷ ks) h = rw h.0 (all_none f ks h.1)
 
+-- the numbers of keys are taken
+pub data AreTakenAt (fields : List Field) : List Key → Type 0 where
+  no_key : AreTakenAt fields []
+  past : {key : Key} {z : ℤ} {keys : List Key} → IsTaken fields key z → AreTakenAt fields keys →
+      AreTakenAt fields (key ∷ keys)
+
 module _ (fields : List Field) where
+  none_at : (ks : List Key) → AreTakenAt fields ks → AllByRecursion (λ k. refusal_at fields k ≡ None) ks
+  none_at _ no_key = tt
+  none_at _ (past taken more) = (none_taken fields _ _ taken, none_at _ more)
+
   first_refusal : (before : List Key) (key : Key) (after : List Key) → keys ≡ before ++ (key ∷ after) →
       AllByRecursion (λ k. refusal_at fields k ≡ None) before → (refusal : Refusal) →
       refusal_at fields key ≡ Some refusal → observation_of fields ≡ Err refusal
@@ -71,18 +81,18 @@ module _ (fields : List Field) where
       ap (λ (ks : List Key). filter_map (refusal_at fields) ks ++ too_narrow (observation_in fields)) is ∙ list.1 in
       ap (unless_refused (observation_in fields)) whole
 
-  pub refused_first : (before : List Key) (key : Key) (after : List Key) → keys ≡ before ++ (key ∷ after) →
-      AllByRecursion (λ k. refusal_at fields k ≡ None) before → (fault : ObsFault) → IsRefusedAt fields key fault →
+  pub refused_first : {before : List Key} → AreTakenAt fields before → (key : Key) (after : List Key) →
+      keys ≡ before ++ (key ∷ after) → (fault : ObsFault) → IsRefusedAt fields key fault →
       IsRefusedFirst fields fault
-  refused_first before key after is none fault h =
+  refused_first {before} taken key after is fault h =
       refusal_map (λ refusal. refusal_at fields key ≡ Some refusal) (λ refusal. observation_of fields ≡ Err refusal)
-      (first_refusal before key after is none) fault h
+      (first_refusal before key after is (none_at before taken)) fault h
 
   -- last comes a band that is too narrow
-  pub refused_last : AllByRecursion (λ k. refusal_at fields k ≡ None) keys → (refusal : Refusal) →
+  pub refused_last : AreTakenAt fields keys → (refusal : Refusal) →
       too_narrow (observation_in fields) ≡ refusal ∷ [] → observation_of fields ≡ Err refusal
   unfolding observation_of refusals
-  refused_last none refusal narrow =
+  refused_last taken refusal narrow =
       let whole : filter_map (refusal_at fields) keys ++ too_narrow (observation_in fields) ≡ refusal ∷ [] =
-      rw (all_none (refusal_at fields) keys none) narrow in
+      rw (all_none (refusal_at fields) keys (none_at keys taken)) narrow in
       ap (unless_refused (observation_in fields)) whole

@@ -1,7 +1,7 @@
 // Runs over objects in memory, and what they leave.
 use psr_base::{MemInputs, MemSink};
 use psr_part::run_part_in_memory;
-use run_stop::Ran;
+use run_outcome::Ran;
 use std::alloc::Global;
 use std::sync::Wait;
 use std::test::Fail;
@@ -58,7 +58,11 @@ pub(crate) fn run_words<R: Wait>(
 ) -> Result<Ended, Fail> {
     let mut out = MemSink::open(alloc, limits.out_room, &[limits.out])?;
     let mut notes = MemSink::open(alloc, 1000, &[limits.note])?;
-    let Ran { status, blocks } = run_part_in_memory(rt, alloc, words, inputs, &mut out, &mut notes);
+    let Ran {
+        status,
+        blocks,
+        recorded: _,
+    } = run_part_in_memory(rt, alloc, words, inputs, &mut out, &mut notes);
     Ok(Ended {
         status,
         text: Vec::from_slice(alloc, out.body())?,

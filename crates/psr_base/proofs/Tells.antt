@@ -5,7 +5,7 @@ use Rattle.std.specs.Option.{option_map, ForSome}
 use Rattle.std.specs.Io.KnownBytes.{append_known}
 use Rattle.std.proofs.lemmas.List.{take_all, length-take-le}
 use Rattle.psr_base.specs.Count.{CallCount, FailsNext, Rose, after_call, after_fault}
-use Rattle.psr_base.specs.Told.{Told, Reading, opened, read_by, GivesNext}
+use Rattle.psr_base.specs.Told.{Told, Reading, history, opened, read_by, GivesNext}
 use Rattle.psr_base.specs.Written.{SinkSeen, WroteAll, WriteFails, room_after}
 use Rattle.psr_base.specs.NamedFiles.{bytes_in, reading_of}
 use Rattle.psr_base.specs.InMemory.{told_where}
@@ -153,6 +153,12 @@ is_open-read (Err x) files files' earlier earlier' (Some file) reading' ok err s
 pub opened-told : {T E A : Type 0} (r : Result T E) (o : Option A) (P : Type 0) → OnOk r P → OnOk r (ForSome o (λ _. P))
 opened-told (Ok x) o P p = λ y known. p
 opened-told (Err x) o P p = tt
+
+-- what was read before a file was opened is history
+pub opened-earlier : {T E : Type 0} (r : Result T E) (name : List ℕ) (old new : Told) →
+    OnOk r (new ≡ opened name old) → OnOk r (new.earlier ≡ history old)
+opened-earlier (Ok x) name old new e = ap (λ (t : Told). t.earlier) e
+opened-earlier (Err x) name old new e = tt
 
 -- the next bytes of what is told are the next bytes
 pub GivesNext-told : {E : Type 0} (r : Result ℕ E) (left : Option (List ℕ)) (buffer : List ℕ) →

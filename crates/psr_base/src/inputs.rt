@@ -2,7 +2,7 @@
 ghost use Rattle.std.specs.Prelude.{◌≡◌, ◌≤◌, ◌<◌, ℕ, length, IfOk, OnOk, OnErr, IsOk, IsErr, IsSome};
 ghost use Rattle.std.specs.Option.{ForSome};
 ghost use Rattle.psr_base.specs.Inputs.{HasReadFrom};
-ghost use Rattle.psr_base.specs.Told.{Told, left_to_read, opened, read_by, GivesNext};
+ghost use Rattle.psr_base.specs.Told.{Told, left_to_read, history, opened, read_by, GivesNext};
 
 use crate::faults::Failed;
 
@@ -24,10 +24,12 @@ pub trait Inputs {
     /// How many calls have failed. The count stops at the largest u64.
     ghost faults: { Self → ℕ };
 
-    /// Opens the file `name` in place of the one that was open.
+    /// Opens the file `name` in place of the one that was open, which is an earlier one from then on, whether or not
+    /// the bytes of `name` are told.
     fn open(&mut self, name: &str) -> Result<(), Failed>
         ensures opened { OnOk result (ForSome ((told self.old).bytes_under name.now)
             (λ _. told self.new ≡ opened name.now (told self.old))) }
+        ensures earlier { OnOk result ((told self.new).earlier ≡ history (told self.old)) }
         ensures is_open { OnOk result (is_open self.new) }
 
         ensures unchanged { OnErr result (told self.new ≡ told self.old) }

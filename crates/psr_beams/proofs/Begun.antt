@@ -17,9 +17,9 @@ use Rattle.disk_feeder.specs.Front.{BreaksAt}
 use Rattle.disk_feeder.specs.History.{firsts_read}
 use Rattle.disk_feeder.specs.Resting.{at_rest}
 use Rattle.disk_feeder.specs.Sources.{first_name, RefusesFirst}
-use Rattle.run_stop.specs.declared.stop.Stop.{Stop}
-use Rattle.run_stop.specs.declared.stop.Stop.TheVariants.{Memory, ReadFault}
-use Rattle.run_stop.specs.Firsts.{HasHeader}
+use Rattle.run_outcome.specs.declared.stop.Stop.{Stop}
+use Rattle.run_outcome.specs.declared.stop.Stop.TheVariants.{Memory, ReadFault}
+use Rattle.run_outcome.specs.Firsts.{HasHeader}
 use Rattle.psr_beams.specs.Files.{beam_name, header_read}
 use Rattle.psr_beams.specs.Feeders.{LeavesData, SlotRead, HasBegun, SlotBegun, ReadsHeader, SaysText, FailsHeader, AreRead, AreBegun, HaveRead, stop_of_header_at}
 use Rattle.psr_beams.proofs.Counting.{retyped}
@@ -124,12 +124,9 @@ module _ (s : SettingsSeen) (name : List ℕ) (old : FeederSpace) (starts : s.st
 
   unread : (before after : Told) (beam : ℕ) (f : FeedFault) → RefusesAt before (at_rest old) f →
       stop_of_header_at beam f ≡ Memory → (after ≡ before) ⊎ LeavesData before name after
-  unread before after beam fault.ReadFault r is = absurd cc
   unread before after beam (fault.BadHeader k header.Memory) r is =
       inr (λ file at. absurd (refused before (fault.BadHeader k header.Memory) r file at).1.1)
-  unread before after beam (fault.BadHeader k (header.Short had)) r is = absurd cc
-  unread before after beam (fault.BadHeader k (header.NotText place)) r is = absurd cc
-  unread before after beam (fault.BadHeader k header.BadSize) r is = absurd cc
+  unread before after beam f r is = absurd cc
 
   -- a fault came before the header was judged
   breaks : (before : Told) (is_calm : Type 0) (after : Told) → BreaksFirstHeaders before is_calm (at_rest old) after →

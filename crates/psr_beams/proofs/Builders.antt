@@ -3,12 +3,12 @@ use Rattle.std.proofs.Common.{◌⊎◌, ◌≡◌, ◌≢◌, ℕ, ◌<◌, Lis
 use Rattle.psr_base.specs.Told.{Told, InputsSeen}
 use Rattle.psr_base.specs.Written.{SinkSeen}
 use Rattle.search_words.specs.Settings.{SettingsSeen}
-use Rattle.run_stop.specs.declared.stop.Stop.{Stop}
-use Rattle.run_stop.specs.declared.stop.Stop.TheVariants.{Words, Value, Header, Plan, Recording, Memory, ReadFault, Gap, TooLong, TooMany, SinkFault, FileFault}
-use Rattle.run_stop.specs.Texts.{status_of}
-use Rattle.run_stop.specs.Runs.{IsStopOfWords}
-use Rattle.run_stop.specs.Outcomes.{JudgesWords}
-use Rattle.run_stop.specs.Ends.{WordsSayOnce}
+use Rattle.run_outcome.specs.declared.stop.Stop.{Stop}
+use Rattle.run_outcome.specs.declared.stop.Stop.TheVariants.{Words, Value, Header, Plan, Recording, Memory, ReadFault, Gap, TooLong, TooMany, SinkFault, FileFault}
+use Rattle.run_outcome.specs.Texts.{status_of}
+use Rattle.run_outcome.specs.Runs.{IsStopOfWords}
+use Rattle.run_outcome.specs.Outcomes.{JudgesWords}
+use Rattle.run_outcome.specs.Ends.{WordsSayOnce}
 use Rattle.psr_beams.specs.Words.{searching_beams, SayBeams}
 use Rattle.psr_beams.specs.Seen.{told_in, told_at, calm_at, seen_at}
 use Rattle.psr_beams.specs.Files.{AreBeamsTold, ForSettings, ForBeams}

@@ -6,7 +6,7 @@ use Rattle.search_words.specs.Settings.{SettingsSeen}
 use Rattle.stream_model.specs.Blocks.{joined_data}
 use Rattle.stream_model.specs.Walk.{FileStream, transfer_data, walk_data, walk_stop}
 use Rattle.disk_feeder.specs.declared.answers.FeedEnd.{FeedEnd}
-use Rattle.disk_feeder.specs.declared.answers.FeedEnd.TheVariants.{Whole, ReadFault, BadHeader, Gap, TooLong}
+use Rattle.disk_feeder.specs.declared.answers.FeedEnd.TheVariants.{ReadFault, TooLong}
 use Rattle.disk_feeder.specs.Ends.{end_of}
 use Rattle.disk_feeder.specs.declared.feeder.FeederSpace.{FeederSpace}
 use Rattle.disk_feeder.specs.Feeder.{plan_at, FeederRead}
@@ -29,11 +29,8 @@ use Rattle.psr_beams.proofs.OneFile.{one_told, one_needed, holds_one, stream_is,
 -- the end is that of the walk where the inputs did not fail
 walk_end : (w : FileStream) (size : ℕ) (blocks : _) (end : FeedEnd) → EndIs w size blocks end →
     end ≢ ReadFault → IsWalkEnd w size blocks end
-walk_end w size blocks (Whole bytes) is not = is
 walk_end w size blocks ReadFault is not = absurd (not refl)
-walk_end w size blocks (BadHeader file cause) is not = is
-walk_end w size blocks (Gap file expected found) is not = is
-walk_end w size blocks (TooLong limit) is not = is
+walk_end w size blocks end is not = is
 
 -- the limit of an end at too many data is that of the plan
 told_limit : (plan : Plan) (size : ℕ) (before : List (List ℕ)) (current : List ℕ) (headers blocks : _)

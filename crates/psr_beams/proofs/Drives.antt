@@ -1,5 +1,5 @@
 -- The way of a search of beams from its settings to its end.
-use Rattle.std.proofs.Common.{◌≡◌, ℕ, ◌<◌, ◌≤◌, List, [], ◌∷◌, length, Option, Some, None, refl, subst, inl, inr, arith}
+use Rattle.std.proofs.Common.{◌≡◌, ℕ, ◌<◌, ◌≤◌, List, [], ◌∷◌, length, Option, Some, None, refl, sym, ◌∙◌, ap, subst, inl, inr, arith}
 use Rattle.std.specs.Prelude.{IsSome}
 use Rattle.psr_base.specs.Told.{Told}
 use Rattle.psr_base.specs.Written.{SinkSeen}
@@ -11,8 +11,8 @@ use Rattle.beam_set.specs.declared.ended.BeamEnd.{BeamEnd}
 use Rattle.beam_set.specs.declared.space.BeamSpace.{BeamSpace}
 use Rattle.beam_set.specs.Laws.{BeamsHoldData}
 use Rattle.beam_set.specs.Later.{LaterHeadersAgree}
-use Rattle.run_stop.specs.declared.stop.Stop.{Stop}
-use Rattle.run_stop.specs.Lone.{IsOfOne}
+use Rattle.run_outcome.specs.declared.stop.Stop.{Stop}
+use Rattle.run_outcome.specs.Lone.{IsOfOne}
 use Rattle.psr_beams.specs.Judged.{headers_in, AreOfOne}
 use Rattle.psr_beams.specs.Engines.{AreSpaces}
 use Rattle.psr_beams.specs.Feeders.{AreRead, AreBegun}
@@ -23,83 +23,106 @@ use Rattle.psr_beams.proofs.OneFile.{only_start}
 use Rattle.psr_beams.proofs.Opening.{headers_there, are_headers, can_run}
 use Rattle.psr_beams.proofs.Walked.{all_data}
 
-module _ {I : Type 0} (told : I → Told) (is_open : I → Type 0) (is_calm : I → Type 0) (faults : I → ℕ)
-    (s : SettingsSeen) (range : AllInRange s) (one : IsOfOne s) (before mid : List I)
-    (count : ℕ) (count_is : count ≡ length s.names) (enough : count ≤ length before) (slots : List (Option FeederSpace))
-    (read : AreRead told is_calm faults s count before mid) (begun : AreBegun told is_open s count mid slots) where
+-- the headers of all beams were read, and these are their feeders
+pub record AreReady {I : Type 0} (told : I → Told) (is_open : I → Type 0) (is_calm : I → Type 0) (faults : I → ℕ)
+    (s : SettingsSeen) (before mid : List I) (slots : List (Option FeederSpace)) : Type 0 where
+  pub starts : s.starts ≡ 0 ∷ []
+  pub some : 0 < length s.names
+  pub enough : length s.names ≤ length before
+  pub read : AreRead told is_calm faults s (length s.names) before mid
+  pub begun : AreBegun told is_open s (length s.names) mid slots
+
+pub are_ready : {I : Type 0} (told : I → Told) (is_open is_calm : I → Type 0) (faults : I → ℕ) (s : SettingsSeen) →
+    AllInRange s → IsOfOne s → (before mid : List I) (count : ℕ) → count ≡ length s.names → 0 < count →
+    count ≤ length before → (slots : List (Option FeederSpace)) → AreRead told is_calm faults s count before mid →
+    AreBegun told is_open s count mid slots → AreReady told is_open is_calm faults s before mid slots
+are_ready told is_open is_calm faults s range one before mid count is some enough slots read begun = record {
+  starts = only_start s.starts (length s.names) range.run.transfers one.transfer;
+  some = omega (arith, some, is);
+  enough = omega (arith, enough, is);
+  read = subst (λ m. AreRead told is_calm faults s m before mid) is read;
+  begun = subst (λ m. AreBegun told is_open s m mid slots) is begun;
+}
+
+-- the feeders are lent as a slice
+module _ {I : Type 0} {told : I → Told} {is_open is_calm : I → Type 0} {faults : I → ℕ} {s : SettingsSeen}
+    {before mid : List I} {slots slice : List (Option FeederSpace)}
+    (ready : AreReady told is_open is_calm faults s before mid slots) (same : slice ≡ slots) where
   abbrev n : ℕ
   n = length s.names
 
-  all_read : AreRead told is_calm faults s n before mid
-  all_read = subst (λ m. AreRead told is_calm faults s m before mid) count_is read
-
-  all_begun : AreBegun told is_open s n mid slots
-  all_begun = subst (λ m. AreBegun told is_open s m mid slots) count_is begun
-
-  all_lent : n ≤ length before
-  all_lent = omega (arith, enough, count_is)
-
-  starts : s.starts ≡ 0 ∷ []
-  starts = only_start s.starts n range.run.transfers one.transfer
+  many : length slice ≡ n
+  many = ap length same ∙ ready.begun.many
 
   reach : n ≤ length mid
-  reach = let lent = read.lent in omega (arith, lent, enough, count_is)
+  reach = let lent = ready.read.lent in let enough = ready.enough in omega (arith, lent, enough)
 
   reads_all : ReadsAll told is_calm faults s before mid (headers_in slots)
   reads_all = record {
-    read = all_read;
-    are = are_headers told is_open s starts is_calm faults n before mid slots all_read all_begun all_lent;
+    read = ready.read;
+    are = are_headers told is_open s ready.starts is_calm faults n before mid slots ready.read ready.begun ready.enough;
   }
 
-  pub headers_read : (k : ℕ) → k < length slots → IsSome (headers_in slots k)
+  pub headers_read : (k : ℕ) → k < length slice → IsSome (headers_in slice k)
   headers_read k within =
-      let many = all_begun.many in
-      headers_there told is_open s starts n mid slots all_begun reach k (omega (arith, within, many))
+      let count = many in
+      subst (λ xs. IsSome (headers_in xs k)) (sym same)
+      (headers_there told is_open s ready.starts n mid slots ready.begun reach k (omega (arith, within, count)))
 
   -- ---- it was not opened
 
-  pub not_opened : (within more : ℕ) (out out' : SinkSeen) (stop : Stop) → out' ≡ out →
-      StopsOpening s.search (headers_in slots) (length slots) stop →
-      IsDriven told is_calm faults s within more before mid out out' (Some stop)
-  not_opened within more out out' stop same stops = inr (inl (
+  pub not_opened : (within more : ℕ) (out : SinkSeen) (stop : Stop) →
+      StopsOpening s.search (headers_in slice) (length slice) stop →
+      IsDriven told is_calm faults s within more before mid out out (Some stop)
+  not_opened within more out stop stops = inr (inl (
     stop,
     refl,
     record {
       headers = headers_in slots;
       read = reads_all;
-      stops = subst (λ m. StopsOpening s.search (headers_in slots) m stop) all_begun.many stops;
+      stops = subst (λ m. StopsOpening s.search (headers_in slots) m stop) many
+          (subst (λ xs. StopsOpening s.search (headers_in xs) (length slice) stop) same stops);
     },
-    same,
+    refl,
   ))
 
   -- ---- it was
 
-  module _ (o : Observation) (accepted : AreOfOne (headers_in slots) (length slots) o) where
+  module _ {o : Observation} (accepted : AreOfOne (headers_in slice) (length slice) o) where
     of_one : AreOfOne (headers_in slots) n o
-    of_one = subst (λ m. AreOfOne (headers_in slots) m o) all_begun.many accepted
+    of_one = subst (λ m. AreOfOne (headers_in slots) m o) many
+        (subst (λ xs. AreOfOne (headers_in xs) (length slice) o) same accepted)
 
-    pub runs : LaterHeadersAgree → 0 < n → (spaces : List (Option BeamSpace)) →
-        AreSpaces s o (headers_in slots) (length slots) spaces → CanRun told is_open s o n mid spaces slots
-    runs law some spaces are = can_run told is_open s starts law o n mid spaces slots reach some all_begun of_one
-        (subst (λ m. AreSpaces s o (headers_in slots) m spaces) all_begun.many are)
+    pub runs : LaterHeadersAgree → {spaces : List (Option BeamSpace)} →
+        AreSpaces s o (headers_in slice) (length slice) spaces → CanRun told is_open s o n mid spaces slots
+    runs law {spaces} are =
+        can_run told is_open s ready.starts law o n mid spaces slots reach ready.some ready.begun of_one
+        (subst (λ m. AreSpaces s o (headers_in slots) m spaces) many
+        (subst (λ xs. AreSpaces s o (headers_in xs) (length slice) spaces) same are))
 
-    module _ (fits : plan_refusal o s.search ≡ None) (after : List I) (ends : List (Option BeamEnd))
-        (come : HaveCome told is_calm faults s o n mid after ends) where
-      pub data_found : NoneStops ends → (data_of_beams : List (List ℕ)) × BeamsHoldData o s.search data_of_beams ends
-      data_found = all_data told is_calm faults s o n mid after ends come reach
+    -- the ends are lent as a slice
+    module _ {after : List I} {ends ended : List (Option BeamEnd)}
+        (come : HaveCome told is_calm faults s o n mid after ends) (are : ended ≡ ends) where
+      came : HaveCome told is_calm faults s o n mid after ended
+      came = subst (λ xs. HaveCome told is_calm faults s o n mid after xs) (sym are) come
 
-      pub went_through : (within more : ℕ) (out out' : SinkSeen) (stop : Option Stop) →
-          HaveBroken told s n before mid after ends → EndsBeams o s.search within more ends out out' stop →
+      pub data_found :
+          NoneStops ended → (data_of_beams : List (List ℕ)) × BeamsHoldData o s.search data_of_beams ended
+      data_found = all_data told is_calm faults s o n mid after ended came reach
+
+      pub went_through : plan_refusal o s.search ≡ None → HaveBroken told s n before mid after ends →
+          (within more : ℕ) (out out' : SinkSeen) (stop : Option Stop) →
+          EndsBeams o s.search within more ended out out' stop →
           IsDriven told is_calm faults s within more before after out out' stop
-      went_through within more out out' stop broken ended = inr (inr (record {
+      went_through fits broken within more out out' stop at = inr (inr (record {
         headers = headers_in slots;
         mid = mid;
         read = reads_all;
         observation = o;
         accepted = of_one;
         fits = fits;
-        ends = ends;
-        come = come;
-        broken = broken;
-        ended = ended;
+        ends = ended;
+        come = came;
+        broken = subst (λ xs. HaveBroken told s n before mid after xs) (sym are) broken;
+        ended = at;
       }))

@@ -14,11 +14,11 @@ use Rattle.disk_feeder.specs.declared.answers.FeedEnd.{FeedEnd}
 use Rattle.disk_feeder.specs.declared.answers.FeedEnd.TheVariants as feed
 use Rattle.beam_set.specs.declared.ended.BeamEnd.{BeamEnd}
 use Rattle.beam_set.specs.Later.{LaterHeadersAgree}
-use Rattle.run_stop.specs.declared.stop.Stop.{Stop}
+use Rattle.run_outcome.specs.declared.stop.Stop.{Stop}
 use Rattle.obs_plan.specs.declared.fault.ObsFault.{ObsFault}
 use Rattle.disk_feeder.specs.declared.answers.HeaderCause.TheVariants.{Fields}
-use Rattle.run_stop.specs.declared.stop.Stop.TheVariants.{Header, Memory, ReadFault, Gap, SinkFault}
-use Rattle.run_stop.specs.Ends.{WordsSayOnce}
+use Rattle.run_outcome.specs.declared.stop.Stop.TheVariants.{Header, Memory, ReadFault, Gap, SinkFault}
+use Rattle.run_outcome.specs.Ends.{WordsSayOnce}
 use Rattle.psr_beams.specs.Words.{SayBeams, searching_beams, is_beam_count, within_in, more_in}
 use Rattle.psr_beams.specs.Seen.{told_at, calm_at, seen_at}
 use Rattle.psr_beams.specs.Files.{ForSettings, OfBeam, beam_name, header_read}
@@ -51,9 +51,15 @@ number_is o n is = sym (ap (λ x. unwrap_or x 0) is)
 
 module _ {I : Type 0} (told : I → Told) (is_calm : I → Type 0) (faults : I → ℕ) (words : List (List ℕ))
     (once : WordsSayOnce) (s : SettingsSeen) (says : SayBeams words s) (before after : List I)
-    (enough : length s.names ≤ length before) (some : 0 < length s.names) (out out' : SinkSeen) where
+    (seven : length before ≡ 7) (out out' : SinkSeen) where
   abbrev n : ℕ
   n = length s.names
+
+  some : 0 < n
+  some = let least = (beams_within words s says).0 in omega (arith, least)
+
+  enough : n ≤ length before
+  enough = let most = (beams_within words s says).1 in omega (arith, most, seven)
 
   -- ---- how it ends
 
@@ -148,18 +154,14 @@ module _ {I : Type 0} (told : I → Told) (is_calm : I → Type 0) (faults : I �
       memory = let same : Some first ≡ Some Memory = sym is ∙ want in cc
 
       at_data : (k : ℕ) (e : FeedEnd) → stop_at_data k e ≡ Some first → ⊥
-      at_data k (feed.Whole bytes) e = cc
       at_data k feed.ReadFault e = let m = memory in cc
-      at_data k (feed.BadHeader file cause) e = cc
-      at_data k (feed.Gap file expected found) e = cc
       at_data k (feed.TooLong limit) e = let m = memory in cc
+      at_data k end e = cc
 
       at_header : (k : ℕ) (e : FeedEnd) → stop_at_header k e ≡ Some first → ⊥
-      at_header k (feed.Whole bytes) e = cc
-      at_header k feed.ReadFault e = cc
       at_header k (feed.BadHeader file cause) e = let m = memory in cc
       at_header k (feed.Gap file expected found) e = let m = memory in cc
-      at_header k (feed.TooLong limit) e = cc
+      at_header k end e = cc
 
       data_slot : (k : ℕ) (slot : Option BeamEnd) → slot_stop stop_at_data k slot ≡ Some first → ⊥
       data_slot k None e = cc
@@ -261,10 +263,7 @@ module _ {I : Type 0} (told : I → Told) (is_calm : I → Type 0) (faults : I �
 
           at_header : (k : ℕ) (e : FeedEnd) → stop_at_header k e ≡ Some first → first ≡ ReadFault → ⊥
           at_header k (feed.Whole bytes) e fault = cc
-          at_header k feed.ReadFault e fault = cc
-          at_header k (feed.BadHeader file cause) e fault = cc
-          at_header k (feed.Gap file expected found) e fault = cc
-          at_header k (feed.TooLong limit) e fault = cc
+          at_header k end e fault = cc
 
           header_slot : (k : ℕ) (slot : Option BeamEnd) → slot_stop stop_at_header k slot ≡ Some first →
               first ≡ ReadFault → ⊥

@@ -14,8 +14,8 @@ use Rattle.disk_feeder.specs.Resting.{at_rest}
 use Rattle.beam_set.specs.declared.space.BeamSpace.{BeamSpace}
 use Rattle.beam_set.specs.Later.{LaterHeadersAgree}
 use Rattle.disk_feeder.specs.declared.answers.HeaderCause.TheVariants.{Fields}
-use Rattle.run_stop.specs.declared.stop.Stop.{Stop}
-use Rattle.run_stop.specs.declared.stop.Stop.TheVariants.{Header, Gap}
+use Rattle.run_outcome.specs.declared.stop.Stop.{Stop}
+use Rattle.run_outcome.specs.declared.stop.Stop.TheVariants.{Header, Gap}
 use Rattle.psr_beams.specs.Seen.{told_at}
 use Rattle.psr_beams.specs.Files.{beam_name}
 use Rattle.psr_beams.specs.Refusals.{stop_of_offset, later_stop}

@@ -16,11 +16,11 @@ use Rattle.stream_model.specs.Walk.{WalkStop, walk_stop}
 use Rattle.stream_model.specs.WalkLaws.{IsAccepted}
 use Rattle.disk_feeder.specs.declared.answers.HeaderCause.{HeaderCause}
 use Rattle.disk_feeder.specs.declared.answers.HeaderCause.TheVariants.{Text, Fields}
-use Rattle.run_stop.specs.declared.causes.PlanCause.{PlanCause}
-use Rattle.run_stop.specs.declared.causes.PlanCause.TheVariants.{SumBound, FoldTooLarge, TooManyFolds, TooManyShards}
-use Rattle.run_stop.specs.declared.stop.Stop.{Stop}
-use Rattle.run_stop.specs.declared.stop.Stop.TheVariants.{Header, Gap}
-use Rattle.run_stop.specs.Runs.{IsPlanCause, stop_of_walk}
+use Rattle.run_outcome.specs.declared.causes.PlanCause.{PlanCause}
+use Rattle.run_outcome.specs.declared.causes.PlanCause.TheVariants.{SumBound}
+use Rattle.run_outcome.specs.declared.stop.Stop.{Stop}
+use Rattle.run_outcome.specs.declared.stop.Stop.TheVariants.{Header, Gap}
+use Rattle.run_outcome.specs.Runs.{IsPlanCause, stop_of_walk}
 use Rattle.psr_beams.specs.Files.{beam_file, beam_stream, beams_observation}
 use Rattle.psr_beams.specs.Refusals.{later_stop, HaveHeaders, RefusesText, RefusesFirst, StopsLater, RefusesLater, AreAccepted, CanSearch, RefusesSearch}
 use Rattle.psr_beams.specs.Found.{StopsBeam, AreWhole, HasTooMany, AreSearched}
@@ -29,36 +29,25 @@ use Rattle.psr_beams.specs.Stops.{IsStopOfBeams}
 -- bytes that have a header are not refused
 pub has_header : (file : List ℕ) (h : HeaderText) (fault : HeaderFault) → header_of file ≡ Ok h →
     IsHeaderRefusal file fault → ⊥
-has_header file h (header.Short had) ok refused = cc
-has_header file h (header.NotText place) ok refused = cc
-has_header file h header.BadSize ok refused = cc
 has_header file h header.Memory ok refused = refused
+has_header file h fault ok refused = cc
 
 -- and are refused by one cause
 pub one_refusal : (file : List ℕ) (a b : HeaderFault) → IsHeaderRefusal file a → IsHeaderRefusal file b → a ≡ b
 one_refusal file header.Memory b x y = absurd x
 one_refusal file a header.Memory x y = absurd y
 one_refusal file (header.Short m) (header.Short n) x y = let same : m ≡ n = cc in ap (λ k. header.Short k) same
-one_refusal file (header.Short m) (header.NotText n) x y = absurd cc
-one_refusal file (header.Short m) header.BadSize x y = absurd cc
-one_refusal file (header.NotText m) (header.Short n) x y = absurd cc
 one_refusal file (header.NotText m) (header.NotText n) x y =
     let same : m ≡ n = cc in ap (λ k. header.NotText k) same
-one_refusal file (header.NotText m) header.BadSize x y = absurd cc
-one_refusal file header.BadSize (header.Short n) x y = absurd cc
-one_refusal file header.BadSize (header.NotText n) x y = absurd cc
 one_refusal file header.BadSize header.BadSize x y = refl
+one_refusal file a b x y = absurd cc
 
 -- nor fields that have an observation
 has_observation : (fields : List Field) (o : Observation) (fault : ObsFault) → observation_of fields ≡ Ok o →
     IsRefusedFirst fields fault → ⊥
-has_observation fields o (obs.Missing key) ok refused = cc
-has_observation fields o (obs.BadNumber key) ok refused = cc
-has_observation fields o (obs.OutOfProfile key) ok refused = cc
-has_observation fields o (obs.OutOfRange key) ok refused = cc
-has_observation fields o (obs.TooNarrow bw nchan) ok refused = cc
 has_observation fields o (obs.Differs key) ok refused = refused
 has_observation fields o obs.Memory ok refused = refused
+has_observation fields o fault ok refused = cc
 
 pub one_header : (a b : HeaderText) (file : List ℕ) → header_of file ≡ Ok a → header_of file ≡ Ok b → a ≡ b
 one_header a b file x y = cc
@@ -66,9 +55,7 @@ one_header a b file x y = cc
 -- a search that is not refused has no cause
 no_plan_cause : (first : Option PlanRefusal) (cause : PlanCause) → first ≡ None → IsPlanCause first cause → ⊥
 no_plan_cause first (SumBound max_sample cells factor) none is = cc
-no_plan_cause first (FoldTooLarge longest halvings) none is = cc
-no_plan_cause first (TooManyFolds count) none is = cc
-no_plan_cause first (TooManyShards shards delays) none is = cc
+no_plan_cause first cause none is = cc
 
 -- a whole walk stops nowhere
 no_stop : (limit : ℕ) (at : WalkStop) (stop : Stop) → at ≡ walk.Whole → stop_of_walk limit at ≡ Some stop → ⊥

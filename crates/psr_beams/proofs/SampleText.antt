@@ -16,9 +16,9 @@ use Rattle.search_words.specs.Defaults.{default_settings, sample_search}
 use Rattle.stream_model.specs.Walk.{data_of, observation_at}
 use Rattle.dada_header.specs.declared.faults.HeaderFault.TheVariants.{Short}
 use Rattle.disk_feeder.specs.declared.answers.HeaderCause.TheVariants.{Text}
-use Rattle.run_stop.specs.declared.stop.Stop.TheVariants.{Header}
-use Rattle.run_stop.specs.Firsts.{HasHeader}
-use Rattle.run_stop.specs.Texts.{note_of}
+use Rattle.run_outcome.specs.declared.stop.Stop.TheVariants.{Header}
+use Rattle.run_outcome.specs.Firsts.{HasHeader}
+use Rattle.run_outcome.specs.Texts.{note_of}
 use Rattle.beam_set.specs.Text.{beam_line}
 use Rattle.beam_set.specs.Searched.{searched_beams_text}
 use Rattle.psr_beams.specs.Words.{number_between, within_in, more_in, SayBeams}

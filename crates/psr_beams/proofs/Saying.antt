@@ -3,7 +3,7 @@ use Rattle.std.proofs.Common.{◌≡◌, ℕ, true, ◌&&◌, List, ap, ◌∙�
 use Rattle.std.specs.Prelude.{is_some}
 use Rattle.search_words.specs.declared.fault.WordFault.{WordFault}
 use Rattle.search_words.specs.declared.fault.WordFault.TheVariants.{Refused, OutOfRange, Memory}
-use Rattle.run_stop.specs.Lone.{ExplainsOneSearch, ExplainsAlone}
+use Rattle.run_outcome.specs.Lone.{ExplainsOneSearch, ExplainsAlone}
 use Rattle.psr_beams.specs.Words.{within_of, more_of, have_form, beam_search}
 
 module _ (words : List (List ℕ)) where

@@ -11,15 +11,15 @@ use Rattle.dada_model.specs.Observation.{Observation, observation_in, observatio
 use Rattle.search_words.specs.Settings.{SettingsSeen}
 use Rattle.stream_model.specs.Walk.{observation_at, fields_past}
 use Rattle.disk_feeder.specs.declared.answers.HeaderCause.TheVariants.{Text, Fields}
-use Rattle.run_stop.specs.declared.stop.Stop.{Stop}
-use Rattle.run_stop.specs.declared.stop.Stop.TheVariants.{Words, Value, Header, Plan, Recording, Memory, ReadFault, Gap, TooLong, TooMany, SinkFault, FileFault}
-use Rattle.run_stop.specs.Texts.{status_of}
-use Rattle.run_stop.specs.Runs.{IsStopOfWords}
-use Rattle.run_stop.specs.Ends.{WordsSayOnce}
+use Rattle.run_outcome.specs.declared.stop.Stop.{Stop}
+use Rattle.run_outcome.specs.declared.stop.Stop.TheVariants.{Header, Plan, Memory, ReadFault, Gap}
+use Rattle.run_outcome.specs.Texts.{status_of}
+use Rattle.run_outcome.specs.Runs.{IsStopOfWords}
+use Rattle.run_outcome.specs.Ends.{WordsSayOnce}
 use Rattle.psr_beams.specs.Words.{SayBeams, searching_beams}
 use Rattle.psr_beams.specs.Seen.{told_at, calm_at, seen_at}
 use Rattle.dada_header.specs.Faults.{IsHeaderRefusal}
-use Rattle.run_stop.specs.Firsts.{HasHeader, RefusesFields}
+use Rattle.run_outcome.specs.Firsts.{HasHeader, RefusesFields}
 use Rattle.psr_beams.specs.Files.{OfBeam, beam_name}
 use Rattle.psr_beams.specs.Refusals.{later_stop, StopsByHeader}
 use Rattle.psr_beams.specs.EachBeam.{HaveHeadersAt, RefusesTextAt, AreOfOneAt, RefusesLaterAt}
@@ -150,16 +150,7 @@ module _ {I : Type 0} (told : I → Told) (is_calm : I → Type 0) (faults : I �
           (for_said words (told_at told before) once s says
           (λ t. HaveHeadersAt (told_at told before) t r.beam) (texts ReadFault r))))
           tt (λ t said. tt)
-      reading_ends (Header file (Fields fault)) r = absurd (r.fails (one_there r.beam r.there)).says
-      reading_ends Words r = absurd (r.fails (one_there r.beam r.there)).says
-      reading_ends (Value opt) r = absurd (r.fails (one_there r.beam r.there)).says
-      reading_ends (Plan cause) r = absurd (r.fails (one_there r.beam r.there)).says
-      reading_ends (Recording cause) r = absurd (r.fails (one_there r.beam r.there)).says
-      reading_ends (Gap file expected found) r = absurd (r.fails (one_there r.beam r.there)).says
-      reading_ends (TooLong limit) r = absurd (r.fails (one_there r.beam r.there)).says
-      reading_ends (TooMany count limit) r = absurd (r.fails (one_there r.beam r.there)).says
-      reading_ends SinkFault r = absurd (r.fails (one_there r.beam r.there)).says
-      reading_ends FileFault r = absurd (r.fails (one_there r.beam r.there)).says
+      reading_ends stop r = absurd (r.fails (one_there r.beam r.there)).says
 
   -- ---- all headers were read
 

@@ -7,12 +7,12 @@ use Rattle.psr_base.specs.Written.{SinkSeen, Noted}
 use Rattle.search_words.specs.Settings.{SettingsSeen}
 use Rattle.search_words.specs.declared.fault.WordFault.{WordFault}
 use Rattle.search_words.specs.declared.fault.WordFault.TheVariants as fault
-use Rattle.run_stop.specs.declared.stop.Stop.{Stop}
-use Rattle.run_stop.specs.declared.stop.Stop.TheVariants.{Words, Value, Header, Plan, Recording, Memory, ReadFault, Gap, TooLong, TooMany, SinkFault, FileFault}
-use Rattle.run_stop.specs.Conversions.{stop_of_words}
-use Rattle.run_stop.specs.Texts.{status_of, note_of}
-use Rattle.run_stop.specs.Runs.{Explains}
-use Rattle.run_stop.specs.Ends.{end_status, EndAtWords}
+use Rattle.run_outcome.specs.declared.stop.Stop.{Stop}
+use Rattle.run_outcome.specs.declared.stop.Stop.TheVariants.{Words, Value, Memory}
+use Rattle.run_outcome.specs.Conversions.{stop_of_words}
+use Rattle.run_outcome.specs.Texts.{status_of, note_of}
+use Rattle.run_outcome.specs.Runs.{Explains}
+use Rattle.run_outcome.specs.Ends.{end_status, EndAtWords}
 use Rattle.psr_beams.specs.Words.{SayBeams, searching_beams}
 use Rattle.psr_beams.specs.Seen.{told_in, calm_at, seen_at}
 use Rattle.psr_beams.specs.Outcome.{Outcome, NotesBeams}
@@ -69,17 +69,7 @@ module _ (words : List (List ℕ)) where
 
 no_stop : (stop : Stop) → status_of stop ≢ 0
 no_stop Words e = omega (arith, e)
-no_stop (Value opt) e = omega (arith, e)
-no_stop (Header beam cause) e = omega (arith, e)
-no_stop (Plan cause) e = omega (arith, e)
-no_stop (Recording cause) e = omega (arith, e)
-no_stop Memory e = omega (arith, e)
-no_stop ReadFault e = omega (arith, e)
-no_stop (Gap beam expected found) e = omega (arith, e)
-no_stop (TooLong limit) e = omega (arith, e)
-no_stop (TooMany count limit) e = omega (arith, e)
-no_stop SinkFault e = omega (arith, e)
-no_stop FileFault e = omega (arith, e)
+no_stop stop e = omega (arith, e)
 
 module _ (words : List (List ℕ)) (inputs : ℕ → InputsSeen) (is_calm : ℕ → Type 0)
     (out out' notes notes' : SinkSeen) where

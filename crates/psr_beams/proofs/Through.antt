@@ -21,10 +21,10 @@ use Rattle.beam_set.specs.declared.ended.BeamEnd.{BeamEnd}
 use Rattle.beam_set.specs.Laws.{HoldsData, BeamsHoldData}
 use Rattle.beam_set.specs.Later.{LaterHeadersAgree}
 use Rattle.beam_set.specs.Searched.{searched_beams_text}
-use Rattle.run_stop.specs.declared.stop.Stop.{Stop}
-use Rattle.run_stop.specs.declared.stop.Stop.TheVariants.{Header, ReadFault, Gap, TooLong, TooMany, SinkFault}
-use Rattle.run_stop.specs.Ends.{WordsSayOnce}
-use Rattle.run_stop.specs.Runs.{stop_of_walk}
+use Rattle.run_outcome.specs.declared.stop.Stop.{Stop}
+use Rattle.run_outcome.specs.declared.stop.Stop.TheVariants.{Header, ReadFault, Gap, TooLong, TooMany, SinkFault}
+use Rattle.run_outcome.specs.Ends.{WordsSayOnce}
+use Rattle.run_outcome.specs.Runs.{stop_of_walk}
 use Rattle.psr_beams.specs.Words.{SayBeams, within_in, more_in}
 use Rattle.psr_beams.specs.Seen.{told_at, calm_at, seen_at}
 use Rattle.psr_beams.specs.Files.{AreBeamsTold, ForBeams, ForSettings, beam_file, beam_name, beams_observation, IsReadOn}
@@ -416,15 +416,13 @@ module _ {I : Type 0} (told : I → Told) (is_calm : I → Type 0) (faults : I �
       at_data first r = by_slot (get_or ends r.beam None) r.is
         where
           by_end : (e : FeedEnd) → stop_at_data r.beam e ≡ Some first → EndsAt (Some first)
-          by_end (feed.Whole bytes) is = absurd cc
           by_end feed.ReadFault is =
               let eq = is_first ReadFault first is in
               subst (λ x. EndsAt (Some x)) eq (at_fault (subst (λ x. StopsBy stop_at_data ends x) (sym eq) r))
-          by_end (feed.BadHeader file cause) is = absurd cc
-          by_end (feed.Gap file expected found) is = absurd cc
           by_end (feed.TooLong limit) is =
               let eq = is_first (TooLong limit) first is in
               subst (λ x. EndsAt (Some x)) eq (at_long limit (subst (λ x. StopsBy stop_at_data ends x) (sym eq) r))
+          by_end e is = absurd cc
 
           by_slot : (slot : Option BeamEnd) → slot_stop stop_at_data r.beam slot ≡ Some first → EndsAt (Some first)
           by_slot None is = absurd cc
@@ -436,14 +434,12 @@ module _ {I : Type 0} (told : I → Told) (is_calm : I → Type 0) (faults : I �
       at_head none first r = by_slot (get_or ends r.beam None) r.is
         where
           by_end : (e : FeedEnd) → stop_at_header r.beam e ≡ Some first → EndsAt (Some first)
-          by_end (feed.Whole bytes) is = absurd cc
-          by_end feed.ReadFault is = absurd cc
           by_end (feed.BadHeader file cause) is =
               subst (λ x. EndsAt (Some x)) (is_first (Header r.beam cause) first is) (at_header none cause first r)
           by_end (feed.Gap file expected found) is =
               subst (λ x. EndsAt (Some x)) (is_first (Gap r.beam expected found) first is)
               (at_gap none expected found first r)
-          by_end (feed.TooLong limit) is = absurd cc
+          by_end e is = absurd cc
 
           by_slot : (slot : Option BeamEnd) → slot_stop stop_at_header r.beam slot ≡ Some first → EndsAt (Some first)
           by_slot None is = absurd cc

@@ -9,11 +9,11 @@ use Rattle.search_model.specs.Observed.{candidates_of}
 use Rattle.search_model.specs.Plan.{plan_refusal}
 use Rattle.search_words.specs.Settings.{SettingsSeen}
 use Rattle.disk_feeder.specs.declared.answers.HeaderCause.TheVariants.{Text, Fields}
-use Rattle.run_stop.specs.declared.causes.PlanCause.{PlanCause}
-use Rattle.run_stop.specs.declared.stop.Stop.{Stop}
-use Rattle.run_stop.specs.declared.stop.Stop.TheVariants.{Words, Value, Header, Plan, Recording, Memory, ReadFault, Gap, TooLong, TooMany, SinkFault, FileFault}
-use Rattle.run_stop.specs.Firsts.{HasHeader, RefusesFields}
-use Rattle.run_stop.specs.Runs.{IsPlanCause}
+use Rattle.run_outcome.specs.declared.causes.PlanCause.{PlanCause}
+use Rattle.run_outcome.specs.declared.stop.Stop.{Stop}
+use Rattle.run_outcome.specs.declared.stop.Stop.TheVariants.{Header, Plan, Recording, Gap, TooLong, TooMany, FileFault}
+use Rattle.run_outcome.specs.Firsts.{HasHeader, RefusesFields}
+use Rattle.run_outcome.specs.Runs.{IsPlanCause}
 use Rattle.psr_beams.specs.Files.{AreBeamsTold, OfBeam, beam_file, beam_data, beams_observation}
 use Rattle.psr_beams.specs.Refusals.{HaveHeaders, StopsByHeader, StopsLater, RefusesText, RefusesFirst, RefusesLater, AreAccepted, CanSearch, RefusesSearch}
 use Rattle.psr_beams.specs.Found.{StopsBeam, AreWhole, HasTooMany, AreSearched}
@@ -164,10 +164,6 @@ module _ (told : ℕ → Told) (s : SettingsSeen) (files : List (List ℕ)) (are
   stop_of_files (Plan cause) r = plan cause r
   stop_of_files (TooLong limit) r = too_long limit r
   stop_of_files (TooMany count limit) r = too_many count limit r
-  stop_of_files Memory r = tt
-  stop_of_files ReadFault r = tt
-  stop_of_files SinkFault r = tt
-  stop_of_files Words r = tt
-  stop_of_files (Value opt) r = tt
   stop_of_files (Recording cause) r = r
   stop_of_files FileFault r = r
+  stop_of_files stop r = tt

@@ -13,7 +13,7 @@ use Rattle.disk_feeder.specs.declared.answers.FeedEnd.TheVariants as feed
 use Rattle.disk_feeder.specs.Ends.{end_of}
 use Rattle.beam_set.specs.declared.ended.BeamEnd.{BeamEnd}
 use Rattle.beam_set.specs.Laws.{HoldsData, BeamsHoldData}
-use Rattle.run_stop.specs.declared.stop.Stop.TheVariants.{ReadFault, TooLong}
+use Rattle.run_outcome.specs.declared.stop.Stop.TheVariants.{ReadFault, TooLong}
 use Rattle.psr_beams.specs.Files.{beam_name, stream_of_one}
 use Rattle.psr_beams.specs.Driven.{HasSlotCome, HaveCome}
 use Rattle.psr_beams.specs.Ends.{stop_at_data, stop_at_header, slot_stop, NoneStops}
@@ -84,23 +84,17 @@ fails_stop k (Some end) failed none =
 
 -- where a beam stops at its data, its inputs failed, or there are too many data
 pub stopped_failing : (k : ℕ) (e : FeedEnd) → stop_at_data k e ≡ Some ReadFault → e ≡ feed.ReadFault
-stopped_failing k (feed.Whole bytes) is = absurd cc
 stopped_failing k feed.ReadFault is = refl
-stopped_failing k (feed.BadHeader file cause) is = absurd cc
-stopped_failing k (feed.Gap file expected found) is = absurd cc
-stopped_failing k (feed.TooLong limit) is = absurd cc
+stopped_failing k e is = absurd cc
 
 pub slot_failing : (k : ℕ) (slot : Option BeamEnd) → slot_stop stop_at_data k slot ≡ Some ReadFault → slot_failed slot
 slot_failing k None is = absurd cc
 slot_failing k (Some end) is = stopped_failing k end.feed is
 
 pub stopped_long : (k limit : ℕ) (e : FeedEnd) → stop_at_data k e ≡ Some (TooLong limit) → e ≡ feed.TooLong limit
-stopped_long k limit (feed.Whole bytes) is = absurd cc
-stopped_long k limit feed.ReadFault is = absurd cc
-stopped_long k limit (feed.BadHeader file cause) is = absurd cc
-stopped_long k limit (feed.Gap file expected found) is = absurd cc
 stopped_long k limit (feed.TooLong other) is =
     let same : other ≡ limit = cc in ap (λ n. feed.TooLong n) same
+stopped_long k limit e is = absurd cc
 
 -- ---- the list of all data
 
@@ -137,10 +131,7 @@ module _ {I : Type 0} (told : I → Told) (is_calm : I → Type 0) (faults : I �
     where
       whole : (e : FeedEnd) → stop_at_data k e ≡ None → stop_at_header k e ≡ None → (n : ℕ) × (e ≡ feed.Whole n)
       whole (feed.Whole n) e h = (n, refl)
-      whole feed.ReadFault e h = absurd cc
-      whole (feed.BadHeader file cause) e h = absurd cc
-      whole (feed.Gap file expected found) e h = absurd cc
-      whole (feed.TooLong limit) e h = absurd cc
+      whole end e h = absurd cc
 
   -- where no beam stopped, there are data that all ends hold
   pub all_data : NoneStops ends → (data_of_beams : List (List ℕ)) × BeamsHoldData o s.search data_of_beams ends

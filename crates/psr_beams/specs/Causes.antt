@@ -10,11 +10,11 @@ use Rattle.dada_header.specs.Faults.{IsHeaderRefusal}
 use Rattle.search_words.specs.Settings.{SettingsSeen}
 use Rattle.disk_feeder.specs.declared.answers.HeaderCause.{HeaderCause}
 use Rattle.disk_feeder.specs.declared.answers.HeaderCause.TheVariants.{Text}
-use Rattle.run_stop.specs.declared.causes.PlanCause.{PlanCause}
-use Rattle.run_stop.specs.declared.stop.Stop.{Stop}
-use Rattle.run_stop.specs.declared.stop.Stop.TheVariants.{Header, Gap, TooLong}
-use Rattle.run_stop.specs.Firsts.{HasHeader}
-use Rattle.run_stop.specs.Texts.{status_of, note_of}
+use Rattle.run_outcome.specs.declared.causes.PlanCause.{PlanCause}
+use Rattle.run_outcome.specs.declared.stop.Stop.{Stop}
+use Rattle.run_outcome.specs.declared.stop.Stop.TheVariants.{Header, Gap, TooLong}
+use Rattle.run_outcome.specs.Firsts.{HasHeader}
+use Rattle.run_outcome.specs.Texts.{status_of, note_of}
 use Rattle.psr_beams.specs.Words.{SayBeams}
 use Rattle.psr_beams.specs.Files.{beam_name}
 use Rattle.psr_beams.specs.Refusals.{RefusesLater, RefusesSearch}

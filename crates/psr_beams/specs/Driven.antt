@@ -17,7 +17,7 @@ use Rattle.disk_feeder.specs.Resting.{at_rest}
 use Rattle.beam_set.specs.declared.ended.BeamEnd.{BeamEnd}
 use Rattle.beam_set.specs.declared.space.BeamSpace.{BeamSpace}
 use Rattle.beam_set.specs.Laws.{HoldsData}
-use Rattle.run_stop.specs.declared.stop.Stop.{Stop}
+use Rattle.run_outcome.specs.declared.stop.Stop.{Stop}
 use Rattle.psr_beams.specs.Seen.{told_at}
 use Rattle.psr_beams.specs.Files.{beam_name, stream_of_one, IsReadOn}
 use Rattle.psr_beams.specs.Feeders.{AreRead, StopsReading}

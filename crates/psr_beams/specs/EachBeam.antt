@@ -14,11 +14,11 @@ use Rattle.search_words.specs.Settings.{SettingsSeen}
 use Rattle.stream_model.specs.Walk as walk
 use Rattle.stream_model.specs.Walk.{data_of, observation_at, walk_stop}
 use Rattle.stream_model.specs.WalkLaws.{IsAccepted}
-use Rattle.run_stop.specs.declared.causes.PlanCause.{PlanCause}
-use Rattle.run_stop.specs.declared.stop.Stop.{Stop}
-use Rattle.run_stop.specs.declared.stop.Stop.TheVariants.{TooLong}
-use Rattle.run_stop.specs.Firsts.{HasHeader, RefusesFields}
-use Rattle.run_stop.specs.Runs.{IsPlanCause, stop_of_walk}
+use Rattle.run_outcome.specs.declared.causes.PlanCause.{PlanCause}
+use Rattle.run_outcome.specs.declared.stop.Stop.{Stop}
+use Rattle.run_outcome.specs.declared.stop.Stop.TheVariants.{TooLong}
+use Rattle.run_outcome.specs.Firsts.{HasHeader, RefusesFields}
+use Rattle.run_outcome.specs.Runs.{IsPlanCause, stop_of_walk}
 use Rattle.psr_beams.specs.Files.{OfBeam, stream_of_one}
 use Rattle.psr_beams.specs.Refusals.{StopsByHeader}
 

@@ -10,11 +10,11 @@ use Rattle.disk_feeder.specs.declared.answers.FeedEnd.TheVariants as feed
 use Rattle.beam_set.specs.declared.ended.BeamEnd.{BeamEnd}
 use Rattle.beam_set.specs.Laws.{BeamsHoldData}
 use Rattle.beam_set.specs.Searched.{searched_beams_text}
-use Rattle.run_stop.specs.declared.stop.Stop.{Stop}
-use Rattle.run_stop.specs.declared.stop.Stop.TheVariants.{Header, ReadFault, Gap, TooLong, TooMany, SinkFault}
-use Rattle.run_stop.specs.Ends.{end_status}
-use Rattle.run_stop.specs.Runs.{IsStopOfWords}
-use Rattle.run_stop.specs.Outcomes.{JudgesWords}
+use Rattle.run_outcome.specs.declared.stop.Stop.{Stop}
+use Rattle.run_outcome.specs.declared.stop.Stop.TheVariants.{Header, ReadFault, Gap, TooLong, TooMany, SinkFault}
+use Rattle.run_outcome.specs.Ends.{end_status}
+use Rattle.run_outcome.specs.Runs.{IsStopOfWords}
+use Rattle.run_outcome.specs.Outcomes.{JudgesWords}
 use Rattle.psr_beams.specs.Words.{searching_beams}
 use Rattle.psr_beams.specs.Seen.{told_in}
 use Rattle.psr_beams.specs.Files.{ForSettings}

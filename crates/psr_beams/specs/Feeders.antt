@@ -12,10 +12,10 @@ use Rattle.disk_feeder.specs.declared.feeder.FeederSpace.{FeederSpace}
 use Rattle.disk_feeder.specs.Feeder.{HasPlan, IsBegun, HasOpenFile, FeederRead}
 use Rattle.disk_feeder.specs.Front.{BreaksAt}
 use Rattle.disk_feeder.specs.Resting.{at_rest}
-use Rattle.run_stop.specs.declared.stop.Stop.{Stop}
-use Rattle.run_stop.specs.declared.stop.Stop.TheVariants.{Header, Memory, ReadFault}
-use Rattle.run_stop.specs.Conversions.{stop_of_header}
-use Rattle.run_stop.specs.Firsts.{HasHeader}
+use Rattle.run_outcome.specs.declared.stop.Stop.{Stop}
+use Rattle.run_outcome.specs.declared.stop.Stop.TheVariants.{Header, Memory, ReadFault}
+use Rattle.run_outcome.specs.Conversions.{stop_of_header}
+use Rattle.run_outcome.specs.Firsts.{HasHeader}
 use Rattle.psr_beams.specs.Files.{beam_name, header_read}
 
 -- ---- one beam. Here and in the following: what inputs tell, whether a name is open, whether they are calm, how many

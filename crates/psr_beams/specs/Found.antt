@@ -6,8 +6,8 @@ use Rattle.search_model.specs.Observed.{candidates_of}
 use Rattle.stream_model.specs.Walk as walk
 use Rattle.stream_model.specs.Walk.{walk_stop, data_of}
 use Rattle.beam_set.specs.Searched.{searched_beams_text}
-use Rattle.run_stop.specs.declared.stop.Stop.{Stop}
-use Rattle.run_stop.specs.Runs.{stop_of_walk}
+use Rattle.run_outcome.specs.declared.stop.Stop.{Stop}
+use Rattle.run_outcome.specs.Runs.{stop_of_walk}
 use Rattle.psr_beams.specs.Words.{within_in, more_in}
 use Rattle.psr_beams.specs.Files.{beam_stream, beam_data, beams_observation}
 use Rattle.psr_beams.specs.Refusals.{CanSearch}

@@ -9,8 +9,8 @@ use Rattle.disk_feeder.specs.declared.answers.HeaderCause.TheVariants.{Fields}
 use Rattle.disk_feeder.specs.declared.feeder.FeederSpace.{FeederSpace}
 use Rattle.disk_feeder.specs.Feeder.{headers_of}
 use Rattle.disk_feeder.specs.Resting.{at_rest}
-use Rattle.run_stop.specs.declared.stop.Stop.{Stop}
-use Rattle.run_stop.specs.declared.stop.Stop.TheVariants.{Header, Memory}
+use Rattle.run_outcome.specs.declared.stop.Stop.{Stop}
+use Rattle.run_outcome.specs.declared.stop.Stop.TheVariants.{Header, Memory}
 use Rattle.psr_beams.specs.Refusals.{later_stop}
 
 -- the header that a feeder has read

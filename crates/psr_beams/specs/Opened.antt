@@ -5,10 +5,10 @@ use Rattle.dada_model.specs.Fields.{HeaderText}
 use Rattle.dada_model.specs.Observation.{Observation}
 use Rattle.search_model.specs.declared.search.Search.{Search}
 use Rattle.search_model.specs.Plan.{plan_refusal}
-use Rattle.run_stop.specs.declared.causes.PlanCause.{PlanCause}
-use Rattle.run_stop.specs.declared.stop.Stop.{Stop}
-use Rattle.run_stop.specs.declared.stop.Stop.TheVariants.{Plan}
-use Rattle.run_stop.specs.Runs.{IsPlanCause}
+use Rattle.run_outcome.specs.declared.causes.PlanCause.{PlanCause}
+use Rattle.run_outcome.specs.declared.stop.Stop.{Stop}
+use Rattle.run_outcome.specs.declared.stop.Stop.TheVariants.{Plan}
+use Rattle.run_outcome.specs.Runs.{IsPlanCause}
 use Rattle.psr_beams.specs.Judged.{AreOfOne, StopsJudging}
 
 -- the search of the observation of these headers is refused

@@ -7,12 +7,12 @@ use Rattle.psr_base.specs.Written.{SinkSeen, WroteAll, WroteFront, Noted}
 use Rattle.search_words.specs.Settings.{SettingsSeen}
 use Rattle.disk_feeder.specs.declared.answers.HeaderCause.{HeaderCause}
 use Rattle.disk_feeder.specs.Front.{BreaksAt}
-use Rattle.run_stop.specs.declared.causes.PlanCause.{PlanCause}
-use Rattle.run_stop.specs.declared.stop.Stop.{Stop}
-use Rattle.run_stop.specs.declared.stop.Stop.TheVariants.{Header, Gap}
-use Rattle.run_stop.specs.Texts.{status_of, note_of}
-use Rattle.run_stop.specs.Runs.{IsStopOfWords}
-use Rattle.run_stop.specs.Outcomes.{JudgesWords}
+use Rattle.run_outcome.specs.declared.causes.PlanCause.{PlanCause}
+use Rattle.run_outcome.specs.declared.stop.Stop.{Stop}
+use Rattle.run_outcome.specs.declared.stop.Stop.TheVariants.{Header, Gap}
+use Rattle.run_outcome.specs.Texts.{status_of, note_of}
+use Rattle.run_outcome.specs.Runs.{IsStopOfWords}
+use Rattle.run_outcome.specs.Outcomes.{JudgesWords}
 use Rattle.psr_beams.specs.Words.{searching_beams, SayBeams}
 use Rattle.psr_beams.specs.Seen.{told_in}
 use Rattle.psr_beams.specs.Files.{ForSettings, OfBeam, ForBeams, AreBeamsTold, beam_name, header_read, IsReadOn}

@@ -13,11 +13,11 @@ use Rattle.search_model.specs.Plan.{plan_refusal}
 use Rattle.search_words.specs.Settings.{SettingsSeen}
 use Rattle.stream_model.specs.WalkLaws.{IsAccepted}
 use Rattle.disk_feeder.specs.declared.answers.HeaderCause.TheVariants.{Fields}
-use Rattle.run_stop.specs.declared.causes.PlanCause.{PlanCause}
-use Rattle.run_stop.specs.declared.stop.Stop.{Stop}
-use Rattle.run_stop.specs.declared.stop.Stop.TheVariants.{Header, Gap}
-use Rattle.run_stop.specs.Firsts.{HasHeader}
-use Rattle.run_stop.specs.Runs.{IsPlanCause}
+use Rattle.run_outcome.specs.declared.causes.PlanCause.{PlanCause}
+use Rattle.run_outcome.specs.declared.stop.Stop.{Stop}
+use Rattle.run_outcome.specs.declared.stop.Stop.TheVariants.{Header, Gap}
+use Rattle.run_outcome.specs.Firsts.{HasHeader}
+use Rattle.run_outcome.specs.Runs.{IsPlanCause}
 use Rattle.psr_beams.specs.Files.{beam_file, beams_observation}
 
 -- ---- texts

@@ -5,8 +5,8 @@ use Rattle.std.specs.Prelude.{◌≡◌, ℕ, ◌<◌, ◌⊎◌, ⊤, List, len
 use Rattle.psr_base.specs.Told.{Told}
 use Rattle.search_words.specs.Settings.{SettingsSeen}
 use Rattle.disk_feeder.specs.declared.answers.HeaderCause.TheVariants.{Text, Fields}
-use Rattle.run_stop.specs.declared.stop.Stop.{Stop}
-use Rattle.run_stop.specs.declared.stop.Stop.TheVariants.{Header, Plan, Gap, TooLong, TooMany, Memory, ReadFault, SinkFault, Words, Value}
+use Rattle.run_outcome.specs.declared.stop.Stop.{Stop}
+use Rattle.run_outcome.specs.declared.stop.Stop.TheVariants.{Header, Plan, Gap, TooLong, TooMany, Memory, ReadFault, SinkFault, Words, Value}
 use Rattle.psr_beams.specs.Refusals.{RefusesText, RefusesFirst, RefusesLater, RefusesSearch}
 use Rattle.psr_beams.specs.Files.{AreBeamsTold}
 use Rattle.psr_beams.specs.Found.{StopsBeam, HasTooMany}

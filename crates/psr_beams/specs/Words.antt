@@ -8,8 +8,8 @@ use Rattle.std.specs.Str.Parse.{digits_value}
 use Rattle.search_model.specs.Observed.{candidates_of}
 use Rattle.search_words.specs.Settings.{SettingsSeen}
 use Rattle.stream_model.specs.Walk.{FileStream, transfer_data}
-use Rattle.run_stop.specs.Lone.{LoneSearch, SayAlone}
-use Rattle.run_stop.specs.Runs.{Task, Alone, first_observation}
+use Rattle.run_outcome.specs.Lone.{LoneSearch, SayAlone}
+use Rattle.run_outcome.specs.Runs.{Task, Alone, first_observation}
 
 -- a text of 1 to 5 decimal digits alone
 abbrev pub is_short_number : List ℕ → Bool

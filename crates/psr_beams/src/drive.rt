@@ -1,7 +1,7 @@
 // A search of several beams from its settings to its end.
 ghost use Rattle.std.specs.Prelude.{◌≡◌, ◌≤◌, ℕ, List, length};
 ghost use Rattle.search_words.specs.Settings.{SettingsSeen, AllInRange, settings_seen};
-ghost use Rattle.run_stop.specs.Lone.{IsOfOne};
+ghost use Rattle.run_outcome.specs.Lone.{IsOfOne};
 ghost use Rattle.psr_beams.specs.Feeders.{HaveRead};
 ghost use Rattle.psr_beams.specs.Driven.{CanRun, HaveCome, HaveBroken, IsDriven};
 
@@ -15,7 +15,7 @@ use beam_set::{BeamEnd, BeamSpace, MOST_BEAMS, run_set};
 use disk_feeder::FeederSpace;
 use obs_plan::Observation;
 use psr_base::{Inputs, Sink};
-use run_stop::Stop;
+use run_outcome::Stop;
 use search_session::Gate;
 use std::alloc::Global;
 use std::sync::Wait;

@@ -8,7 +8,7 @@ use beam_set::{BeamEnd, write_beams};
 use disk_feeder::FeedEnd;
 use obs_plan::Observation;
 use psr_base::Sink;
-use run_stop::Stop;
+use run_outcome::Stop;
 use search_model::Search;
 // A law: it does nothing when it runs, and the proofs use what it ensures.
 use beam_set::searched_beams_are_found;

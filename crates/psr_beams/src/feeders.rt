@@ -1,7 +1,7 @@
 // The feeders of all beams, each of which reads the header of its file.
 ghost use Rattle.std.specs.Prelude.{◌≡◌, ◌<◌, ◌≤◌, length, Some, IfOk, IfErr, OnOk};
 ghost use Rattle.search_words.specs.Settings.{AllInRange, settings_seen};
-ghost use Rattle.run_stop.specs.Lone.{IsOfOne};
+ghost use Rattle.run_outcome.specs.Lone.{IsOfOne};
 ghost use Rattle.psr_beams.specs.Files.{beam_name};
 ghost use Rattle.psr_beams.specs.Feeders.{HasBegun, SlotRead, ReadsHeader, FailsHeader, AreRead, AreBegun, HaveRead, StopsReading, stop_of_header_at};
 
@@ -9,7 +9,7 @@ use arrayvec::ArrayVec;
 use beam_set::MOST_BEAMS;
 use disk_feeder::{FeedFault, FeederSpace};
 use psr_base::Inputs;
-use run_stop::Stop;
+use run_outcome::Stop;
 use search_words::Settings;
 use std::alloc::Global;
 

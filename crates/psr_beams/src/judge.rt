@@ -9,7 +9,7 @@ ghost use Rattle.psr_beams.specs.Refusals.{stop_of_offset, later_stop as later_s
 use dada_header::Header;
 use disk_feeder::{FeederSpace, HeaderCause};
 use obs_plan::{Observation, Profile};
-use run_stop::Stop;
+use run_outcome::Stop;
 use std::alloc::Global;
 
 // The stop of a later beam at its header, whose OBS_OFFSET has to be `expected`, or none.

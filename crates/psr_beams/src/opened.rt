@@ -14,7 +14,7 @@ use beam_set::{BeamSpace, MOST_BEAMS};
 use disk_feeder::FeederSpace;
 use obs_plan::Observation;
 use psr_base::Memory;
-use run_stop::Stop;
+use run_outcome::Stop;
 use search_engine::{Engine, check_plan};
 use search_opening::run_shape;
 use search_words::Settings;

@@ -1,7 +1,7 @@
 // The top call.
 ghost use Rattle.std.specs.Prelude.{◌≡◌, ◌≤◌, ℕ, length, slice_index_or, Some, map, string_bytes};
 ghost use Rattle.search_words.specs.Settings.{SettingsSeen};
-ghost use Rattle.run_stop.specs.Ends.{end_status};
+ghost use Rattle.run_outcome.specs.Ends.{end_status};
 ghost use Rattle.psr_beams.specs.Words.{SayBeams};
 ghost use Rattle.psr_beams.specs.Seen.{told_at, calm_at, seen_at};
 ghost use Rattle.psr_beams.specs.Outcome.{Outcome, FailsFirst, ReadsNoData};
@@ -10,7 +10,7 @@ ghost use Rattle.psr_beams.specs.Ends.{Ends};
 use crate::drive::drive;
 use crate::words::read_words;
 use psr_base::{Inputs, Sink};
-use run_stop::{Stop, tell};
+use run_outcome::{Stop, tell};
 use search_session::Gate;
 use std::alloc::Global;
 use std::sync::Wait;
@@ -18,7 +18,7 @@ use std::thread::Threads;
 // Laws: they do nothing when they run, and the proofs use what they ensure.
 use beam_set::later_headers_agree;
 use dada_model::accepted_by_rows;
-use run_stop::{end_at_words, words_say_once};
+use run_outcome::{end_at_words, words_say_once};
 use stream_model::first_files_continue;
 
 /// Searches the files that the arguments name, 2 to 7, each as a beam of one observation, and writes the text of all

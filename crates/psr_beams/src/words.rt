@@ -1,11 +1,11 @@
 // The arguments of a search of several beams.
 ghost use Rattle.std.specs.Prelude.{◌≡◌, ◌≤◌, Some, map, string_bytes, length, IfOk, IfErr};
 ghost use Rattle.search_words.specs.Settings.{AllInRange, settings_seen};
-ghost use Rattle.run_stop.specs.Lone.{ExplainsAlone};
+ghost use Rattle.run_outcome.specs.Lone.{ExplainsAlone};
 ghost use Rattle.psr_beams.specs.Words.{number_between, word_at, within_of, more_of, is_beam_count as is_beam_count_of, beam_search, SayBeams};
 
 use dada_model::whole_number;
-use lone_run::settings_after;
+use drive_lone::settings_after;
 use search_words::{Settings, WordFault};
 use std::alloc::Global;
 

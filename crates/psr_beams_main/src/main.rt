@@ -4,7 +4,7 @@
 
 use psr_base::{RealInputs, RealSink, TakenStreams};
 use psr_beams::run_beams;
-use run_stop::words_or_status;
+use run_outcome::words_or_status;
 use search_session::NoGate;
 use std::env;
 use std::process::ExitCode;

@@ -25,12 +25,12 @@ use Rattle.stream_model.specs.Walk.{FileStream, walk_stop, header_stop, data_bet
 use Rattle.stream_model.specs.WalkLaws.{AreWalked, IsAccepted, FirstFilesContinue, WholeExactly}
 use Rattle.transfer_text.specs.Searched.{candidate_total, searched_text}
 use Rattle.disk_feeder.specs.Plan.{AreTold}
-use Rattle.run_stop.specs.declared.ran.Ran.{Ran}
-use Rattle.run_stop.specs.declared.stop.Stop.{Stop}
-use Rattle.run_stop.specs.declared.stop.Stop.TheVariants as stop
-use Rattle.run_stop.specs.Texts.{status_of, note_of}
-use Rattle.run_stop.specs.Runs.{Searching, observed_transfers, first_observation, CanBegin, SaysOfFiles}
-use Rattle.run_stop.specs.Ends.{AcceptedGoesOn}
+use Rattle.run_outcome.specs.declared.ran.Ran.{Ran}
+use Rattle.run_outcome.specs.declared.stop.Stop.{Stop}
+use Rattle.run_outcome.specs.declared.stop.Stop.TheVariants as stop
+use Rattle.run_outcome.specs.Texts.{status_of, note_of}
+use Rattle.run_outcome.specs.Runs.{Searching, observed_transfers, first_observation, CanBegin, SaysOfFiles}
+use Rattle.run_outcome.specs.Ends.{AcceptedGoesOn}
 use Rattle.psr_search.specs.Outcome.{Outcome}
 use Rattle.psr_make.specs.Made.{made_observation, made_data, made_file}
 use Rattle.psr_demo.specs.Demo.{demo_spec, demo_search, demo_candidates, demo_text, EndsAt, TellsEnd, text_at, IsFound}

@@ -9,8 +9,8 @@ use Rattle.search_model.specs.CandidateText.{is_pulse, is_fold, end_line}
 use Rattle.search_model.specs.Observed.{candidates_of, search_text}
 use Rattle.psr_make.specs.Made.{made_observation, made_data}
 use Rattle.psr_make.specs.declared.spec.MakeSpec.{MakeSpec}
-use Rattle.run_stop.specs.declared.stop.Stop.TheVariants.{Memory, TooMany}
-use Rattle.run_stop.specs.Texts.{note_of}
+use Rattle.run_outcome.specs.declared.stop.Stop.TheVariants.{Memory, TooMany}
+use Rattle.run_outcome.specs.Texts.{note_of}
 
 -- ---- what is searched
 

@@ -13,7 +13,7 @@ use std::thread::Threads;
 use std::time::Clock;
 // Laws: they do nothing when they run, and the proofs use what they ensure.
 use dada_model::{edges_fall, headers_by_front};
-use run_stop::accepted_goes_on;
+use run_outcome::accepted_goes_on;
 use search_model::{candidates_are_listed, samples_of_bytes, sums_are_bounded};
 use stream_model::{first_files_continue, whole_exactly};
 

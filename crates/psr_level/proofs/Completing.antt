@@ -6,10 +6,10 @@ use Rattle.psr_base.specs.Written.{SinkSeen}
 use Rattle.search_words.specs.Settings.{RunInRange}
 use Rattle.stream_model.specs.Walk.{FileStream}
 use Rattle.disk_feeder.specs.declared.answers.HeaderCause.{HeaderCause}
-use Rattle.run_stop.specs.declared.stop.Stop.{Stop}
-use Rattle.run_stop.specs.declared.stop.Stop.TheVariants as halts
-use Rattle.run_stop.specs.Runs.{stream_for}
-use Rattle.run_stop.specs.Texts.{status_of}
+use Rattle.run_outcome.specs.declared.stop.Stop.{Stop}
+use Rattle.run_outcome.specs.declared.stop.Stop.TheVariants as halts
+use Rattle.run_outcome.specs.Runs.{stream_for}
+use Rattle.run_outcome.specs.Texts.{status_of}
 use Rattle.level_words.specs.declared.opt.Opt.{Opt}
 use Rattle.level_words.specs.declared.fault.LevelFault.{LevelFault}
 use Rattle.level_words.specs.declared.fault.LevelFault.TheVariants as faults

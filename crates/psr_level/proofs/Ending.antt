@@ -5,7 +5,7 @@ use Rattle.psr_base.specs.Inputs.{HasReadFrom}
 use Rattle.psr_base.specs.Told.{Told}
 use Rattle.psr_base.specs.Written.{SinkSeen, WroteAll}
 use Rattle.disk_feeder.specs.Filling.{HoldsAll}
-use Rattle.run_stop.specs.declared.stop.Stop.TheVariants.{ReadFault}
+use Rattle.run_outcome.specs.declared.stop.Stop.TheVariants.{ReadFault}
 use Rattle.search_words.specs.Settings.{RunInRange}
 use Rattle.search_opening.specs.Settings.{OfRun}
 use Rattle.level_words.specs.Settings.{LevelSeen, SayLevel}
@@ -13,7 +13,7 @@ use Rattle.drive_stream.specs.Laws.{StreamsEnd}
 use Rattle.drive_stream.specs.declared.stop.StreamStop.{StreamStop}
 use Rattle.drive_stream.specs.declared.stop.StreamStop.TheVariants as stream
 use Rattle.psr_level.specs.declared.refusal.LevelRefusal.{LevelRefusal}
-use Rattle.psr_level.specs.declared.refusal.LevelRefusal.TheVariants.{LongTime, BadMask, NoRoom}
+use Rattle.psr_level.specs.declared.refusal.LevelRefusal.TheVariants.{LongTime}
 use Rattle.psr_level.specs.declared.stop.LevelStop.{LevelStop}
 use Rattle.psr_level.specs.declared.stop.LevelStop.TheVariants.{Run}
 use Rattle.psr_level.specs.Complete.{IsComplete}
@@ -25,11 +25,9 @@ use Rattle.psr_level.specs.Outcome.{EndsLevel, EndsSettings}
 -- the inputs failed exactly where the stream says so
 says_fault : (o : Option (StreamStop LevelRefusal)) → option_map stop_of_stream o ≡ Some (Run ReadFault) →
     o ≡ Some (stream.Run ReadFault)
-says_fault None is = absurd cc
 says_fault (Some (stream.Run stop)) is = let same : stop ≡ ReadFault = cc in ap (λ x. Some (stream.Run x)) same
 says_fault (Some (stream.Refused LongTime)) is = absurd cc
-says_fault (Some (stream.Refused (BadMask fault))) is = absurd cc
-says_fault (Some (stream.Refused (NoRoom need size))) is = absurd cc
+says_fault o is = absurd cc
 
 fault_says : (o : Option (StreamStop LevelRefusal)) → o ≡ Some (stream.Run ReadFault) →
     option_map stop_of_stream o ≡ Some (Run ReadFault)

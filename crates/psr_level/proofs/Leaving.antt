@@ -5,12 +5,12 @@ use Rattle.psr_base.specs.Written.{SinkSeen}
 use Rattle.search_words.specs.Settings.{RunInRange}
 use Rattle.stream_model.specs.Walk.{FileStream}
 use Rattle.stream_model.specs.WalkLaws.{AreWalked}
-use Rattle.run_stop.specs.declared.stop.Stop.{Stop}
-use Rattle.run_stop.specs.declared.stop.Stop.TheVariants as halts
-use Rattle.run_stop.specs.Ends.{StatusesSayStops}
-use Rattle.run_stop.specs.Firsts.{ReadsFirsts}
-use Rattle.run_stop.specs.Runs.{stream_for}
-use Rattle.run_stop.specs.Texts.{status_of}
+use Rattle.run_outcome.specs.declared.stop.Stop.{Stop}
+use Rattle.run_outcome.specs.declared.stop.Stop.TheVariants as halts
+use Rattle.run_outcome.specs.Ends.{StatusesSayStops}
+use Rattle.run_outcome.specs.Firsts.{ReadsFirsts}
+use Rattle.run_outcome.specs.Runs.{stream_for}
+use Rattle.run_outcome.specs.Texts.{status_of}
 use Rattle.search_opening.specs.Settings.{OfRunFirsts}
 use Rattle.level_words.specs.declared.fault.LevelFault.{LevelFault}
 use Rattle.level_words.specs.declared.fault.LevelFault.TheVariants as faults
@@ -22,7 +22,7 @@ use Rattle.drive_stream.specs.Outcome as streamed
 use Rattle.drive_stream.specs.declared.stop.StreamStop.{StreamStop}
 use Rattle.drive_stream.specs.declared.stop.StreamStop.TheVariants as stream
 use Rattle.psr_level.specs.declared.refusal.LevelRefusal.{LevelRefusal}
-use Rattle.psr_level.specs.declared.refusal.LevelRefusal.TheVariants.{LongTime, BadMask, NoRoom}
+use Rattle.psr_level.specs.declared.refusal.LevelRefusal.TheVariants.{LongTime}
 use Rattle.psr_level.specs.Levels.{CanLevel, Leaves, Refuses, level_block}
 use Rattle.psr_level.specs.Notes.{end_status, stop_of_words}
 use Rattle.psr_level.specs.Outcome.{EndsLevel, LeavesFiles, ReadsRefused}
@@ -32,19 +32,15 @@ use Rattle.psr_level.proofs.Ending.{says_once}
 -- 5 and 6 are the statuses of want of memory and of a fault of the inputs alone
 five : StatusesSayStops → (o : Option (StreamStop LevelRefusal)) → stream_status o ≡ 5 →
     o ≡ Some (stream.Run halts.Memory)
-five say None is = absurd (omega (arith, is))
 five say (Some (stream.Run stop)) is = ap (λ (x : Stop). Some (stream.Run x)) (say.memory stop is)
 five say (Some (stream.Refused LongTime)) is = absurd (omega (arith, is))
-five say (Some (stream.Refused (BadMask fault))) is = absurd (omega (arith, is))
-five say (Some (stream.Refused (NoRoom need size))) is = absurd (omega (arith, is))
+five say o is = absurd (omega (arith, is))
 
 six : StatusesSayStops → (o : Option (StreamStop LevelRefusal)) → stream_status o ≡ 6 →
     o ≡ Some (stream.Run halts.ReadFault)
-six say None is = absurd (omega (arith, is))
 six say (Some (stream.Run stop)) is = ap (λ (x : Stop). Some (stream.Run x)) (say.read_fault stop is)
 six say (Some (stream.Refused LongTime)) is = absurd (omega (arith, is))
-six say (Some (stream.Refused (BadMask fault))) is = absurd (omega (arith, is))
-six say (Some (stream.Refused (NoRoom need size))) is = absurd (omega (arith, is))
+six say o is = absurd (omega (arith, is))
 
 -- 12 is the status of a mask that is refused alone, and what lies outside has none of those of a refusal
 twelve : StatusesSayStops → (o : Option (StreamStop LevelRefusal)) → stream_status o ≡ 12 →
@@ -54,17 +50,7 @@ twelve say (Some (stream.Run stop)) is = absurd (other stop is)
   where
     other : (stop : Stop) → status_of stop ≡ 12 → ⊥
     other halts.Words is = absurd (omega (arith, is))
-    other (halts.Value opt) is = absurd (omega (arith, is))
-    other (halts.Header file cause) is = absurd (omega (arith, is))
-    other (halts.Plan cause) is = absurd (omega (arith, is))
-    other (halts.Recording cause) is = absurd (omega (arith, is))
-    other halts.Memory is = absurd (omega (arith, is))
-    other halts.ReadFault is = absurd (omega (arith, is))
-    other (halts.Gap file expected found) is = absurd (omega (arith, is))
-    other (halts.TooLong limit) is = absurd (omega (arith, is))
-    other (halts.TooMany count limit) is = absurd (omega (arith, is))
-    other halts.SinkFault is = absurd (omega (arith, is))
-    other halts.FileFault is = absurd (omega (arith, is))
+    other stop is = absurd (omega (arith, is))
 twelve say (Some (stream.Refused refusal)) is = (refusal, refl)
 
 not_three : (o : Option (StreamStop LevelRefusal)) → IsFromOutside o → stream_status o ≡ 3 → ⊥

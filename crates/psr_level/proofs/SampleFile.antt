@@ -14,7 +14,7 @@ use Rattle.stream_model.specs.Walk as walk
 use Rattle.stream_model.specs.Walk.{FileStream, data_of, data_between, transfer_of, observation_at, header_stop, length_stop, stop_at, transfer_data, walk_stop}
 use Rattle.stream_model.specs.WalkLaws.{AreWalked, IsAccepted}
 use Rattle.disk_feeder.specs.Plan.{AreTold}
-use Rattle.run_stop.specs.Runs.{first_observation, stream_for}
+use Rattle.run_outcome.specs.Runs.{first_observation, stream_for}
 use Rattle.band_level.specs.Finished.{kept_before, kept_sum, finished}
 use Rattle.band_level.specs.Levelled.{levelled, fine, fine_before, spectrum_levels, first_levels}
 use Rattle.band_level.specs.Scales.{root}
@@ -164,14 +164,8 @@ whole = refl
 -- no field of the header gets another number
 no_number : (k : ℕ) → k < 7 → new_number settings.options observation header (get_or all_fields k Tsamp) ≡ None
 unfolding settings observation header fields_of words_of without_comment is_white value_of number_value
-no_number zero below = refl
-no_number (suc zero) below = refl
-no_number (suc (suc zero)) below = refl
-no_number (suc (suc (suc zero))) below = refl
-no_number (suc (suc (suc (suc zero)))) below = refl
-no_number (suc (suc (suc (suc (suc zero))))) below = refl
-no_number (suc (suc (suc (suc (suc (suc zero)))))) below = refl
 no_number (suc (suc (suc (suc (suc (suc (suc k))))))) below = absurd (omega (arith, below))
+no_number k below = refl
 
 never : (number : Option ℕ) (n : ℕ) → number ≡ None → number ≡ Some n → ⊥
 never number n none some = absurd cc

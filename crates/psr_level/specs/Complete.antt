@@ -5,9 +5,9 @@ use Rattle.psr_base.specs.Told.{Told}
 use Rattle.stream_model.specs.Walk.{WalkStop, Whole, stop_at, walk_stop}
 use Rattle.stream_model.specs.WalkLaws.{AreWalked}
 use Rattle.disk_feeder.specs.declared.answers.HeaderCause.{HeaderCause}
-use Rattle.run_stop.specs.declared.stop.Stop.{Stop}
-use Rattle.run_stop.specs.Runs.{RefusesFirstHeader, stop_of_walk}
-use Rattle.run_stop.specs.Texts.{status_of}
+use Rattle.run_outcome.specs.declared.stop.Stop.{Stop}
+use Rattle.run_outcome.specs.Runs.{RefusesFirstHeader, stop_of_walk}
+use Rattle.run_outcome.specs.Texts.{status_of}
 use Rattle.search_opening.specs.Settings.{OfRun, OfRunFirsts, OfRunTo}
 use Rattle.level_words.specs.Settings.{LevelSeen}
 use Rattle.drive_stream.specs.Outcome.{OfHead}

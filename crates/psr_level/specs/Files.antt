@@ -3,7 +3,7 @@
 use Rattle.std.specs.Prelude.{ℕ, List}
 use Rattle.psr_base.specs.Told.{Told}
 use Rattle.stream_model.specs.Walk.{FileStream, transfer_data}
-use Rattle.run_stop.specs.Runs.{first_observation}
+use Rattle.run_outcome.specs.Runs.{first_observation}
 use Rattle.search_opening.specs.Settings.{OfRun}
 use Rattle.level_words.specs.Settings.{LevelSeen, SayLevel}
 use Rattle.drive_stream.specs.Outcome.{first_header}

@@ -8,9 +8,9 @@ use Rattle.channel_mask.specs.declared.fault.MaskFault.TheVariants as mask
 use Rattle.level_words.specs.Table.{option_text}
 use Rattle.level_words.specs.declared.fault.LevelFault.{LevelFault}
 use Rattle.level_words.specs.declared.fault.LevelFault.TheVariants as words
-use Rattle.run_stop.specs.declared.stop.Stop.{Stop}
-use Rattle.run_stop.specs.declared.stop.Stop.TheVariants.{Words, Memory, Header}
-use Rattle.run_stop.specs.Texts.{status_of, note_of}
+use Rattle.run_outcome.specs.declared.stop.Stop.{Stop}
+use Rattle.run_outcome.specs.declared.stop.Stop.TheVariants.{Words, Memory, Header}
+use Rattle.run_outcome.specs.Texts.{status_of, note_of}
 use Rattle.dada_model.specs.declared.key.Key.TheVariants.{Tsamp}
 use Rattle.obs_plan.specs.declared.fault.ObsFault.TheVariants as obs
 use Rattle.disk_feeder.specs.declared.answers.HeaderCause.TheVariants.{Fields}

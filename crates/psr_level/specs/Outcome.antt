@@ -3,9 +3,9 @@
 use Rattle.std.specs.Prelude.{◌≡◌, ℕ, ◌⊎◌, List, Option, Some, None, option_map}
 use Rattle.psr_base.specs.Told.{Told, InputsSeen}
 use Rattle.psr_base.specs.Written.{SinkSeen, Noted}
-use Rattle.run_stop.specs.declared.stop.Stop.TheVariants.{ReadFault}
-use Rattle.run_stop.specs.Ends.{CountsFaults}
-use Rattle.run_stop.specs.Firsts.{ReadsFirsts}
+use Rattle.run_outcome.specs.declared.stop.Stop.TheVariants.{ReadFault}
+use Rattle.run_outcome.specs.Ends.{CountsFaults}
+use Rattle.run_outcome.specs.Firsts.{ReadsFirsts}
 use Rattle.search_opening.specs.Settings.{OfRunFirsts}
 use Rattle.level_words.specs.declared.fault.LevelFault.{LevelFault}
 use Rattle.level_words.specs.Settings.{LevelSeen, SayLevel, ExplainsLevel}

@@ -11,7 +11,7 @@ use disk_feeder::HeaderCause;
 use drive_stream::StreamStop;
 use level_words::{LevelFault, Opt};
 use obs_plan::ObsFault;
-use run_stop::Stop;
+use run_outcome::Stop;
 use text_line::Line;
 
 /// Why a levelling ended without all that it was asked for: as any run, or for a reason of its own.

@@ -18,12 +18,12 @@ use crate::task::LevelTask;
 use drive_stream::{StreamStop, drive_stream};
 use level_words::LevelSettings;
 use psr_base::{Inputs, Sink};
-use run_stop::{Stop, tell_line};
+use run_outcome::{Stop, tell_line};
 use std::alloc::Global;
 use std::sync::Wait;
 // Laws: they do nothing when they run, and the proofs use what they ensure.
 use drive_stream::{causes_are_answered, streams_end};
-use run_stop::statuses_say_stops;
+use run_outcome::statuses_say_stops;
 
 // Streams the files of settings through to the output, and answers why it stopped early, if it did.
 fn stream<R: Wait, I: Inputs, K: Sink>(

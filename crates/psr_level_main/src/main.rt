@@ -3,7 +3,7 @@
 
 use psr_base::{RealInputs, RealSink, TakenStreams};
 use psr_level::run_level;
-use run_stop::words_or_status;
+use run_outcome::words_or_status;
 use std::env;
 use std::process::ExitCode;
 

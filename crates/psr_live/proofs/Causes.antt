@@ -31,15 +31,15 @@ use Rattle.warm_restart.specs.Checkpoint.{IsCheckpointText, IsJudged, IsNoCheckp
 use Rattle.warm_restart.specs.Counts.{greatest_count}
 use Rattle.warm_restart.specs.Laws.{TextsSayOne}
 use Rattle.warm_restart.specs.Named.{new_word}
-use Rattle.run_stop.specs.declared.causes.PlanCause.{PlanCause}
-use Rattle.run_stop.specs.declared.causes.PlanCause.TheVariants.{SumBound, FoldTooLarge, TooManyFolds, TooManyShards}
-use Rattle.run_stop.specs.declared.stop.Stop.{Stop}
-use Rattle.run_stop.specs.declared.stop.Stop.TheVariants as halts
-use Rattle.run_stop.specs.Conversions.{stop_of_words}
-use Rattle.run_stop.specs.Ends.{AcceptedIsNotRefused, CountsFaults, EndAtWords, WordsSayOnce}
-use Rattle.run_stop.specs.Firsts.{first_file}
-use Rattle.run_stop.specs.Lone.{ExplainsAlone}
-use Rattle.run_stop.specs.Runs.{Alone, CanSearch, IsPlanCause, RefusesFirstHeader, RefusesSearch, first_observation, stop_of_walk, stream_for}
+use Rattle.run_outcome.specs.declared.causes.PlanCause.{PlanCause}
+use Rattle.run_outcome.specs.declared.causes.PlanCause.TheVariants.{SumBound, FoldTooLarge, TooManyFolds, TooManyShards}
+use Rattle.run_outcome.specs.declared.stop.Stop.{Stop}
+use Rattle.run_outcome.specs.declared.stop.Stop.TheVariants as halts
+use Rattle.run_outcome.specs.Conversions.{stop_of_words}
+use Rattle.run_outcome.specs.Ends.{AcceptedIsNotRefused, CountsFaults, EndAtWords, WordsSayOnce}
+use Rattle.run_outcome.specs.Firsts.{first_file}
+use Rattle.run_outcome.specs.Lone.{ExplainsAlone}
+use Rattle.run_outcome.specs.Runs.{Alone, CanSearch, IsPlanCause, RefusesFirstHeader, RefusesSearch, first_observation, stop_of_walk, stream_for}
 use Rattle.drive_stream.specs.declared.stop.StreamStop.{StreamStop}
 use Rattle.drive_stream.specs.declared.stop.StreamStop.TheVariants as streamed
 use Rattle.drive_stream.specs.Endings.{Ending, Phase, All, Early, Failed, Refused, Midway, AtEnd, AtStop}
@@ -84,9 +84,7 @@ cause_of (model.TooManyShards shards delays) = TooManyShards shards delays
 caused : (first : Option PlanRefusal) (cause : PlanCause) → IsPlanCause first cause →
     option_map cause_of first ≡ Some cause
 caused first (SumBound most cells factor) is = ap (option_map cause_of) is
-caused first (FoldTooLarge longest halvings) is = ap (option_map cause_of) is
-caused first (TooManyFolds count) is = ap (option_map cause_of) is
-caused first (TooManyShards shards delays) is = ap (option_map cause_of) is
+caused first cause is = ap (option_map cause_of) is
 
 one_cause : (first : Option PlanRefusal) (a b : PlanCause) → IsPlanCause first a → IsPlanCause first b → a ≡ b
 one_cause first a b is is' = let same : Some a ≡ Some b = sym (caused first a is) ∙ caused first b is' in cc
@@ -99,27 +97,13 @@ no_cause first cause none is =
 never_sink : (end : FeedEnd) (ending : Ending LiveRefusal) →
     IsStopOf end ending (Some (streamed.Run halts.SinkFault)) → ⊥
 never_sink (feed.Whole n) All is = absurd cc
-never_sink (feed.Whole n) Early is = is
-never_sink (feed.Whole n) (Failed phase) is = is
 never_sink (feed.Whole n) (Refused refusal) is = absurd cc
-never_sink feed.ReadFault All is = is
 never_sink feed.ReadFault Early is = absurd cc
-never_sink feed.ReadFault (Failed Midway) is = is
-never_sink feed.ReadFault (Failed AtEnd) is = is
 never_sink feed.ReadFault (Failed AtStop) is = absurd cc
-never_sink feed.ReadFault (Refused refusal) is = is
-never_sink (feed.BadHeader file cause) All is = is
 never_sink (feed.BadHeader file cause) Early is = absurd cc
-never_sink (feed.BadHeader file cause) (Failed phase) is = is
-never_sink (feed.BadHeader file cause) (Refused refusal) is = is
-never_sink (feed.Gap file expected found) All is = is
 never_sink (feed.Gap file expected found) Early is = absurd cc
-never_sink (feed.Gap file expected found) (Failed phase) is = is
-never_sink (feed.Gap file expected found) (Refused refusal) is = is
-never_sink (feed.TooLong limit) All is = is
 never_sink (feed.TooLong limit) Early is = absurd cc
-never_sink (feed.TooLong limit) (Failed phase) is = is
-never_sink (feed.TooLong limit) (Refused refusal) is = is
+never_sink end ending is = is
 
 -- a fault of the output is counted
 sink_rose : (o : Observation) (t : Task) (bytes : List ℕ) (phase : Phase) (before after : SinkSeen) →

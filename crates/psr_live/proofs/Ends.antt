@@ -26,17 +26,17 @@ use Rattle.warm_restart.specs.declared.checkpoint.CheckpointFault.{CheckpointFau
 use Rattle.warm_restart.specs.declared.checkpoint.CheckpointFault.TheVariants as check
 use Rattle.warm_restart.specs.Checkpoint.{IsJudged}
 use Rattle.warm_restart.specs.Counts.{greatest_count}
-use Rattle.run_stop.specs.declared.stop.Stop.{Stop}
-use Rattle.run_stop.specs.declared.stop.Stop.TheVariants.{Words, Value, Header, Plan, Recording, Memory, ReadFault, Gap, TooLong, TooMany, SinkFault, FileFault}
-use Rattle.run_stop.specs.Conversions.{stop_of_feed, stop_of_words}
-use Rattle.run_stop.specs.Ends.{WordsSayOnce}
-use Rattle.run_stop.specs.Texts.{status_of}
-use Rattle.run_stop.specs.Runs.{Alone, CanSearch, stream_for}
-use Rattle.run_stop.specs.Firsts.{first_file}
+use Rattle.run_outcome.specs.declared.stop.Stop.{Stop}
+use Rattle.run_outcome.specs.declared.stop.Stop.TheVariants.{Words, Header, Plan, Memory, ReadFault, Gap, TooLong}
+use Rattle.run_outcome.specs.Conversions.{stop_of_feed, stop_of_words}
+use Rattle.run_outcome.specs.Ends.{WordsSayOnce}
+use Rattle.run_outcome.specs.Texts.{status_of}
+use Rattle.run_outcome.specs.Runs.{Alone, CanSearch, stream_for}
+use Rattle.run_outcome.specs.Firsts.{first_file}
 use Rattle.search_opening.specs.First.{ComesFirst}
 use Rattle.drive_stream.specs.declared.stop.StreamStop.{StreamStop}
 use Rattle.drive_stream.specs.declared.stop.StreamStop.TheVariants as streamed
-use Rattle.drive_stream.specs.Endings.{Ending, All, Early, Failed, Refused, Midway, AtEnd, AtStop}
+use Rattle.drive_stream.specs.Endings.{Ending, All, Early, Failed, Refused, AtStop}
 use Rattle.drive_stream.specs.Outcome.{EndsEarly, EndsFed, EndsStream, OfHead, SaysBefore}
 use Rattle.drive_stream.specs.Stops.{IsStopOf, as_run}
 use Rattle.psr_part.specs.declared.stop.CheckpointRefusal.{CheckpointRefusal}
@@ -57,10 +57,7 @@ use Rattle.psr_live.specs.Words.{live_alone}
 
 whole_stop : (bytes n limit : ℕ) (stop : WalkStop) → feed.Whole n ≡ end_of bytes limit stop → stop ≡ walk.Whole
 whole_stop bytes n limit walk.Whole is = refl
-whole_stop bytes n limit (walk.BadText file refusal) is = absurd cc
-whole_stop bytes n limit (walk.BadFields file fault) is = absurd cc
-whole_stop bytes n limit (walk.Gap file expected found) is = absurd cc
-whole_stop bytes n limit (walk.TooLong file) is = absurd cc
+whole_stop bytes n limit stop is = absurd cc
 
 one_joined : (w : FileStream) → length w.starts ≡ 1 → joined_data (walk_data w) ≡ transfer_data w 0
 unfolding joined_data walk_data
@@ -85,24 +82,12 @@ IsOwn stop = (what : Stop) → stop ≡ Some (streamed.Run what) → ⊥
 whole_end : (end : FeedEnd) (ending : Ending LiveRefusal) (stop : Option (StreamStop LiveRefusal)) →
     IsStopOf end ending stop → IsOwn stop → (count : ℕ) × (end ≡ feed.Whole count)
 whole_end (feed.Whole n) ending stop is own = (n, refl)
-whole_end feed.ReadFault All stop is own = absurd is
 whole_end feed.ReadFault Early stop is own = absurd (own _ is)
-whole_end feed.ReadFault (Failed Midway) stop is own = absurd is
-whole_end feed.ReadFault (Failed AtEnd) stop is own = absurd is
 whole_end feed.ReadFault (Failed AtStop) stop is own = absurd (own _ is)
-whole_end feed.ReadFault (Refused refusal) stop is own = absurd is
-whole_end (feed.BadHeader file cause) All stop is own = absurd is
 whole_end (feed.BadHeader file cause) Early stop is own = absurd (own _ is)
-whole_end (feed.BadHeader file cause) (Failed phase) stop is own = absurd is
-whole_end (feed.BadHeader file cause) (Refused refusal) stop is own = absurd is
-whole_end (feed.Gap file expected found) All stop is own = absurd is
 whole_end (feed.Gap file expected found) Early stop is own = absurd (own _ is)
-whole_end (feed.Gap file expected found) (Failed phase) stop is own = absurd is
-whole_end (feed.Gap file expected found) (Refused refusal) stop is own = absurd is
-whole_end (feed.TooLong limit) All stop is own = absurd is
 whole_end (feed.TooLong limit) Early stop is own = absurd (own _ is)
-whole_end (feed.TooLong limit) (Failed phase) stop is own = absurd is
-whole_end (feed.TooLong limit) (Refused refusal) stop is own = absurd is
+whole_end end ending stop is own = absurd is
 
 -- the ending of all data is that of the stop
 all_is : (n : ℕ) (ending : Ending LiveRefusal) → IsStopOf (feed.Whole n) ending None → ending ≡ All
@@ -175,17 +160,7 @@ module _ (joined : BytesAreJoined) (takes : Observation → HeaderText → Type 
 
 not_stopped : (stop : Stop) → status_of stop ≡ 0 → ⊥
 not_stopped Words is = omega (arith, is)
-not_stopped (Value opt) is = omega (arith, is)
-not_stopped (Header file cause) is = omega (arith, is)
-not_stopped (Plan cause) is = omega (arith, is)
-not_stopped (Recording cause) is = omega (arith, is)
-not_stopped Memory is = omega (arith, is)
-not_stopped ReadFault is = omega (arith, is)
-not_stopped (Gap file expected found) is = omega (arith, is)
-not_stopped (TooLong limit) is = omega (arith, is)
-not_stopped (TooMany count limit) is = omega (arith, is)
-not_stopped SinkFault is = omega (arith, is)
-not_stopped FileFault is = omega (arith, is)
+not_stopped stop is = omega (arith, is)
 
 no_stop : (stop : Option PartStop) → end_status stop ≡ 0 → stop ≡ None
 no_stop None is = refl
@@ -308,9 +283,6 @@ module _ (joined : BytesAreJoined) (once : WordsSayOnce) (words : List (List ℕ
   stream_refused : (stop : Option PartStop) (e : EndsStreamed words inputs is_calm before after stop)
       (refusal : CheckpointRefusal) (end : Option (StreamStop LiveRefusal)) → e.streamed ≡ end →
       stop_of_stream end ≡ Some (part.Refused refusal) → IsRefused words inputs.told refusal
-  stream_refused stop e refusal None at same = absurd cc
-  stream_refused stop e refusal (Some (streamed.Run what)) at same = absurd cc
-  stream_refused stop e refusal (Some (streamed.Refused (refusals.Plan cause))) at same = absurd cc
   stream_refused stop e refusal (Some (streamed.Refused (refusals.Beyond place spectra))) at same =
       let is : refusal ≡ check_refusal.Beyond place spectra = cc in
       subst (IsRefused words inputs.told) (sym is) (record {
@@ -321,6 +293,7 @@ module _ (joined : BytesAreJoined) (once : WordsSayOnce) (words : List (List ℕ
             (went_short joined words e.settings e.from e.told before after e.says.search.one.transfer e.streamed place
             spectra at e.ends);
       })
+  stream_refused stop e refusal end at same = absurd cc
 
   pub refusal_said : (stop : Option PartStop) → EndsLive words inputs is_calm before after stop →
       (refusal : CheckpointRefusal) → stop ≡ Some (part.Refused refusal) → IsRefused words inputs.told refusal
@@ -344,18 +317,10 @@ check_known check.Form = (9, lit< tt, refl)
 check_known (check.Place place until) = (9, lit< tt, refl)
 
 first_known : (stop : Stop) → ComesFirst stop → IsKnown (part.Run stop)
-first_known Words is = absurd is
-first_known (Value opt) is = absurd is
 first_known (Header file cause) is = (2, lit< tt, refl)
-first_known (Plan cause) is = absurd is
-first_known (Recording cause) is = absurd is
 first_known Memory is = (4, lit< tt, refl)
 first_known ReadFault is = (5, lit< tt, refl)
-first_known (Gap file expected found) is = absurd is
-first_known (TooLong limit) is = absurd is
-first_known (TooMany count limit) is = absurd is
-first_known SinkFault is = absurd is
-first_known FileFault is = absurd is
+first_known stop is = absurd is
 
 refusal_known : (refusal : LiveRefusal) → IsKnown (part_stop (streamed.Refused refusal))
 refusal_known (refusals.Plan cause) = (3, lit< tt, refl)
@@ -376,28 +341,14 @@ fed_known : (end : FeedEnd) (ending : Ending LiveRefusal) (stop : Option (Stream
     IsStopOf end ending stop → IsKnownEnd stop
 fed_known (feed.Whole n) All stop is = subst IsKnownEnd (sym is) (0, lit< tt, refl)
 fed_known (feed.Whole n) (Refused refusal) stop is = subst IsKnownEnd (sym is) (refusal_known refusal)
-fed_known (feed.Whole n) Early stop is = absurd is
-fed_known (feed.Whole n) (Failed phase) stop is = absurd is
-fed_known feed.ReadFault All stop is = absurd is
 fed_known feed.ReadFault Early stop is = subst IsKnownEnd (sym is) (feed_known feed.ReadFault)
-fed_known feed.ReadFault (Failed Midway) stop is = absurd is
-fed_known feed.ReadFault (Failed AtEnd) stop is = absurd is
 fed_known feed.ReadFault (Failed AtStop) stop is = subst IsKnownEnd (sym is) (feed_known feed.ReadFault)
-fed_known feed.ReadFault (Refused refusal) stop is = absurd is
-fed_known (feed.BadHeader file cause) All stop is = absurd is
 fed_known (feed.BadHeader file cause) Early stop is =
     subst IsKnownEnd (sym is) (feed_known (feed.BadHeader file cause))
-fed_known (feed.BadHeader file cause) (Failed phase) stop is = absurd is
-fed_known (feed.BadHeader file cause) (Refused refusal) stop is = absurd is
-fed_known (feed.Gap file expected found) All stop is = absurd is
 fed_known (feed.Gap file expected found) Early stop is =
     subst IsKnownEnd (sym is) (feed_known (feed.Gap file expected found))
-fed_known (feed.Gap file expected found) (Failed phase) stop is = absurd is
-fed_known (feed.Gap file expected found) (Refused refusal) stop is = absurd is
-fed_known (feed.TooLong limit) All stop is = absurd is
 fed_known (feed.TooLong limit) Early stop is = subst IsKnownEnd (sym is) (feed_known (feed.TooLong limit))
-fed_known (feed.TooLong limit) (Failed phase) stop is = absurd is
-fed_known (feed.TooLong limit) (Refused refusal) stop is = absurd is
+fed_known end ending stop is = absurd is
 
 early_known : (s : RunSeen) (told : Told) (refuses : Observation → HeaderText → LiveRefusal → Type 0)
     (what : StreamStop LiveRefusal) → SaysBefore refuses s told what → IsKnownEnd (Some what)

@@ -15,10 +15,10 @@ use Rattle.warm_restart.specs.declared.checkpoint.Checkpoint.{Checkpoint}
 use Rattle.warm_restart.specs.declared.checkpoint.CheckpointFault.{CheckpointFault}
 use Rattle.warm_restart.specs.declared.checkpoint.CheckpointFault.TheVariants as check
 use Rattle.warm_restart.specs.Named.{most_read, named_text, new_word, ReadsFront}
-use Rattle.run_stop.specs.declared.stop.Stop.{Stop}
-use Rattle.run_stop.specs.declared.stop.Stop.TheVariants.{Memory, ReadFault}
-use Rattle.run_stop.specs.Conversions.{stop_of_words}
-use Rattle.run_stop.specs.Firsts.{BreaksFirstAt}
+use Rattle.run_outcome.specs.declared.stop.Stop.{Stop}
+use Rattle.run_outcome.specs.declared.stop.Stop.TheVariants.{Memory, ReadFault}
+use Rattle.run_outcome.specs.Conversions.{stop_of_words}
+use Rattle.run_outcome.specs.Firsts.{BreaksFirstAt}
 use Rattle.drive_stream.specs.declared.stop.StreamStop.{StreamStop}
 use Rattle.drive_stream.specs.declared.stop.StreamStop.TheVariants as streamed
 use Rattle.drive_stream.specs.Endings.{Ending}
@@ -143,10 +143,9 @@ leaves_at_check told words is_calm word old new seen f stop is same none front b
 
 to_memory : (stop : Option (StreamStop LiveRefusal)) → stop_of_stream stop ≡ Some (Run Memory) →
     stop ≡ Some (streamed.Run Memory)
-to_memory None is = absurd cc
 to_memory (Some (streamed.Run stop)) is = cc
 to_memory (Some (streamed.Refused (refusals.Plan cause))) is = absurd cc
-to_memory (Some (streamed.Refused (refusals.Beyond place spectra))) is = absurd cc
+to_memory stop is = absurd cc
 
 module _ (s : SettingsSeen) (calm calm' : Type 0) (stays : calm → calm') (before after : Told) where
   first_stays : BreaksFirstAt s.names s.starts calm' before after → BreaksFirstAt s.names s.starts calm before after
@@ -155,6 +154,7 @@ module _ (s : SettingsSeen) (calm calm' : Type 0) (stays : calm → calm') (befo
     there = b.there;
     earlier = b.earlier;
     broke = b.broke;
+    through = b.through;
     missing = λ c. b.missing (stays c);
     unopened = λ c. b.unopened (stays c);
   }
@@ -171,6 +171,8 @@ module _ (s : SettingsSeen) (calm calm' : Type 0) (stays : calm → calm') (befo
       passed = b.read.passed;
       cut = b.read.cut;
       stood = b.read.stood;
+      past = b.read.past;
+      through = b.read.through;
       missing = λ c. b.read.missing (stays c);
       shut = λ c. b.read.shut (stays c);
       unopened = λ c. b.read.unopened (stays c);
@@ -222,11 +224,9 @@ module _ (words : List (List ℕ)) (s : SettingsSeen) (says : SayLive words s) (
 
   at_end : (refusal : CheckpointRefusal) → (end : Option (StreamStop LiveRefusal)) →
       stop_of_stream end ≡ Some (Refused refusal) → ReadsRefused words old new refusal
-  at_end refusal None is = absurd cc
-  at_end refusal (Some (streamed.Run end)) is = absurd cc
-  at_end refusal (Some (streamed.Refused (refusals.Plan cause))) is = absurd cc
   at_end refusal (Some (streamed.Refused (refusals.Beyond place spectra))) is =
       let e : refusal ≡ check_refusal.Beyond place spectra = cc in subst (ReadsRefused words old new) (sym e) tt
+  at_end refusal end is = absurd cc
 
   pub leaves_streamed : (result : Option PartStop) → result ≡ stop_of_stream stop →
       LeavesFiles words calm old new before after result

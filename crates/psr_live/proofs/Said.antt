@@ -3,7 +3,7 @@ use Rattle.std.proofs.Common.{◌≡◌, ℕ, ◌/◌, ◌%◌, ◌≤◌, List,
 use Rattle.search_words.specs.declared.fault.WordFault.{WordFault}
 use Rattle.search_words.specs.declared.fault.WordFault.TheVariants.{Refused, OutOfRange, Memory}
 use Rattle.warm_restart.specs.Counts.{greatest_count}
-use Rattle.run_stop.specs.Lone.{ExplainsOneSearch, ExplainsAlone}
+use Rattle.run_outcome.specs.Lone.{ExplainsOneSearch, ExplainsAlone}
 use Rattle.live_search.specs.Live.{IsEvery}
 use Rattle.psr_live.specs.Words.{has_form, live_alone}
 

@@ -19,8 +19,8 @@ use Rattle.stream_model.specs.Walk.{FileStream, data_of, data_between, observati
 use Rattle.disk_feeder.specs.Plan.{AreTold}
 use Rattle.warm_restart.specs.Counts.{until_of}
 use Rattle.warm_restart.specs.Laws.{TextsSayOne, LinesAreReadBack}
-use Rattle.run_stop.specs.Ends.{WordsSayOnce}
-use Rattle.run_stop.specs.Runs.{stream_for, first_observation}
+use Rattle.run_outcome.specs.Ends.{WordsSayOnce}
+use Rattle.run_outcome.specs.Runs.{stream_for, first_observation}
 use Rattle.live_search.specs.Laws.{first_spectrum}
 use Rattle.live_search.specs.LiveText.{after_parts, live_text, marked_parts}
 use Rattle.psr_part.specs.Part.{check_text_of}

@@ -19,7 +19,7 @@ use Rattle.warm_restart.specs.declared.checkpoint.CheckpointFault.TheVariants as
 use Rattle.warm_restart.specs.Checkpoint.{IsJudged}
 use Rattle.warm_restart.specs.Counts.{greatest_count}
 use Rattle.warm_restart.specs.Named.{named_text, new_word}
-use Rattle.run_stop.specs.declared.stop.Stop.TheVariants.{ReadFault}
+use Rattle.run_outcome.specs.declared.stop.Stop.TheVariants.{ReadFault}
 use Rattle.drive_stream.specs.declared.stop.StreamStop.{StreamStop}
 use Rattle.drive_stream.specs.declared.stop.StreamStop.TheVariants as streamed
 use Rattle.drive_stream.specs.Endings.{Ending}
@@ -116,10 +116,9 @@ module _ {I : Type 0} (told : I → Told) (is_calm : I → Type 0) (faults : I �
 
 pub to_stream : (stop : Option (StreamStop LiveRefusal)) → stop_of_stream stop ≡ Some (Run ReadFault) →
     stop ≡ Some (streamed.Run ReadFault)
-to_stream None is = absurd cc
 to_stream (Some (streamed.Run stop)) is = cc
 to_stream (Some (streamed.Refused (refusal.Plan cause))) is = absurd cc
-to_stream (Some (streamed.Refused (refusal.Beyond place spectra))) is = absurd cc
+to_stream stop is = absurd cc
 
 -- the laws of a run, of this one
 module _ (s : SettingsSeen) (range : RunInRange (with_search tt s)) (one : length s.starts ≡ 1)

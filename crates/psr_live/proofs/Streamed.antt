@@ -8,7 +8,7 @@ use Rattle.dada_model.specs.Observation.{Observation}
 use Rattle.psr_base.specs.Written.{PiecesJoin, SinkSeen, WroteAll, WroteFront, room_after}
 use Rattle.search_model.specs.Plan.{PlanRefusal}
 use Rattle.search_model.specs.Observed.{filterbank_of}
-use Rattle.run_stop.specs.declared.causes.PlanCause.TheVariants.{SumBound, FoldTooLarge, TooManyFolds, TooManyShards}
+use Rattle.run_outcome.specs.declared.causes.PlanCause.TheVariants.{SumBound}
 use Rattle.live_search.specs.Laws.{LiveDataGrow}
 use Rattle.live_search.specs.Live.{BrokeOff, Task, WasFed, WroteOn, so_far}
 use Rattle.live_search.specs.declared.live.LiveSearch.{LiveSearch}
@@ -19,11 +19,9 @@ use Rattle.psr_live.specs.Task.{IsRefusal, Streams, text_of}
 -- ---- refusals
 
 pub never_both : (first : Option PlanRefusal) (refusal : LiveRefusal) → first ≡ None → IsRefusal first refusal → ⊥
-never_both first (Plan (SumBound a b c)) none is = absurd cc
-never_both first (Plan (FoldTooLarge a b)) none is = absurd cc
-never_both first (Plan (TooManyFolds a)) none is = absurd cc
-never_both first (Plan (TooManyShards a b)) none is = absurd cc
 never_both first (Beyond place spectra) none is = is
+never_both first (Plan (SumBound a b c)) none is = absurd cc
+never_both first refusal none is = absurd cc
 
 -- ---- an output that took nothing
 

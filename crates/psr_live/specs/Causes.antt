@@ -14,11 +14,11 @@ use Rattle.disk_feeder.specs.Filling.{HoldsAll}
 use Rattle.warm_restart.specs.declared.checkpoint.Checkpoint.{Checkpoint}
 use Rattle.warm_restart.specs.Checkpoint.{IsCheckpointText, IsNoCheckpointText}
 use Rattle.warm_restart.specs.Counts.{greatest_count}
-use Rattle.run_stop.specs.declared.causes.PlanCause.{PlanCause}
-use Rattle.run_stop.specs.declared.stop.Stop.{Stop}
-use Rattle.run_stop.specs.declared.stop.Stop.TheVariants.{Header, Plan, Memory, ReadFault, SinkFault}
-use Rattle.run_stop.specs.Firsts.{first_file}
-use Rattle.run_stop.specs.Runs.{CanSearch, RefusesFirstHeader, RefusesSearch, stop_of_walk}
+use Rattle.run_outcome.specs.declared.causes.PlanCause.{PlanCause}
+use Rattle.run_outcome.specs.declared.stop.Stop.{Stop}
+use Rattle.run_outcome.specs.declared.stop.Stop.TheVariants.{Header, Plan, Memory, ReadFault, SinkFault}
+use Rattle.run_outcome.specs.Firsts.{first_file}
+use Rattle.run_outcome.specs.Runs.{CanSearch, RefusesFirstHeader, RefusesSearch, stop_of_walk}
 use Rattle.search_opening.specs.Settings.{OfRun, OfRunFirsts, OfRunTo}
 use Rattle.psr_part.specs.declared.stop.CheckpointRefusal.TheVariants.{Form, Place, Beyond}
 use Rattle.psr_part.specs.declared.stop.PartStop.{PartStop}

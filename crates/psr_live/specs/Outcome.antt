@@ -20,12 +20,12 @@ use Rattle.warm_restart.specs.declared.checkpoint.CheckpointFault.{CheckpointFau
 use Rattle.warm_restart.specs.declared.checkpoint.CheckpointFault.TheVariants as check
 use Rattle.warm_restart.specs.Checkpoint.{IsCheckpointText, IsJudged}
 use Rattle.warm_restart.specs.Counts.{greatest_count}
-use Rattle.run_stop.specs.declared.stop.Stop.TheVariants.{Header, ReadFault}
-use Rattle.run_stop.specs.Conversions.{stop_of_words}
-use Rattle.run_stop.specs.Ends.{CountsFaults}
-use Rattle.run_stop.specs.Lone.{SayAlone, ExplainsAlone}
-use Rattle.run_stop.specs.Runs.{CanSearch, RefusesFirstHeader, first_observation, stop_of_walk, stream_for}
-use Rattle.run_stop.specs.Firsts.{first_file}
+use Rattle.run_outcome.specs.declared.stop.Stop.TheVariants.{Header, ReadFault}
+use Rattle.run_outcome.specs.Conversions.{stop_of_words}
+use Rattle.run_outcome.specs.Ends.{CountsFaults}
+use Rattle.run_outcome.specs.Lone.{SayAlone, ExplainsAlone}
+use Rattle.run_outcome.specs.Runs.{CanSearch, RefusesFirstHeader, first_observation, stop_of_walk, stream_for}
+use Rattle.run_outcome.specs.Firsts.{first_file}
 use Rattle.drive_stream.specs.declared.stop.StreamStop.{StreamStop}
 use Rattle.drive_stream.specs.Endings.{Ending}
 use Rattle.drive_stream.specs.declared.stop.StreamStop.TheVariants as streamed

@@ -12,9 +12,9 @@ use Rattle.stream_model.specs.WalkLaws.{AreWalked}
 use Rattle.warm_restart.specs.declared.checkpoint.Checkpoint.{Checkpoint}
 use Rattle.warm_restart.specs.Checkpoint.{IsCheckpointText, IsNoCheckpointText}
 use Rattle.warm_restart.specs.Counts.{greatest_count}
-use Rattle.run_stop.specs.declared.stop.Stop.TheVariants.{Memory, ReadFault}
-use Rattle.run_stop.specs.Firsts.{ReadsFirsts, first_file}
-use Rattle.run_stop.specs.Runs.{CanSearch}
+use Rattle.run_outcome.specs.declared.stop.Stop.TheVariants.{Memory, ReadFault}
+use Rattle.run_outcome.specs.Firsts.{ReadsFirsts, first_file}
+use Rattle.run_outcome.specs.Runs.{CanSearch}
 use Rattle.search_opening.specs.Settings.{OfRunFirsts}
 use Rattle.drive_stream.specs.Outcome.{BreaksStream}
 use Rattle.psr_part.specs.declared.stop.CheckpointRefusal.{CheckpointRefusal}

@@ -7,7 +7,7 @@ use Rattle.search_model.specs.declared.search.Search.{Search}
 use Rattle.search_model.specs.Observed.{candidates_of, filterbank_of}
 use Rattle.search_model.specs.Plan.{PlanRefusal, plan_refusal}
 use Rattle.search_engine.specs.Scope.{spectrum_size}
-use Rattle.run_stop.specs.Runs.{IsPlanCause}
+use Rattle.run_outcome.specs.Runs.{IsPlanCause}
 use Rattle.drive_stream.specs.Endings.{Ending, All, Early, Failed, Refused, Midway, AtEnd, AtStop}
 use Rattle.live_search.specs.LiveText.{layout_of, live_text, stopped_text}
 use Rattle.live_search.specs.Live.{Task, WasFed, so_far}

@@ -2,8 +2,8 @@
 -- that too many pulses stop none.
 -- Source: this project's choice.
 use Rattle.std.specs.Prelude.{ℕ, List, [], ◌∷◌, Option, Some, None}
-use Rattle.run_stop.specs.declared.stop.Stop.TheVariants as run
-use Rattle.run_stop.specs.Texts.{note_of}
+use Rattle.run_outcome.specs.declared.stop.Stop.TheVariants as run
+use Rattle.run_outcome.specs.Texts.{note_of}
 use Rattle.drive_stream.specs.declared.stop.StreamStop.{StreamStop}
 use Rattle.drive_stream.specs.declared.stop.StreamStop.TheVariants as streamed
 use Rattle.psr_part.specs.declared.stop.CheckpointRefusal.TheVariants as check

@@ -2,7 +2,7 @@
 -- behind it.
 -- Source: this project's choice.
 use Rattle.std.specs.Prelude.{ℕ, ◌%◌, ◌==◌, ◌&&◌, Bool, List, nat_lt}
-use Rattle.run_stop.specs.Lone.{LoneSearch}
+use Rattle.run_outcome.specs.Lone.{LoneSearch}
 use Rattle.psr_part.specs.Part as part
 
 -- how many spectra a part has

@@ -5,7 +5,7 @@ ghost use Rattle.psr_live.specs.Sample.{SamplesAreFound};
 
 use psr_base::Inputs;
 // Laws: they do nothing when they run, and the proofs use what they ensure.
-use run_stop::{accepted_is_not_refused, end_at_words, words_say_once};
+use run_outcome::{accepted_is_not_refused, end_at_words, words_say_once};
 use stream_model::bytes_are_joined;
 use warm_restart::{lines_are_read_back, texts_say_one};
 

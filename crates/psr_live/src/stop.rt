@@ -5,7 +5,7 @@ ghost use Rattle.psr_live.specs.Texts.{part_stop, stop_of_stream as stop_of};
 use crate::task::LiveRefusal;
 use drive_stream::StreamStop;
 use psr_part::{CheckpointRefusal, PartStop};
-use run_stop::Stop;
+use run_outcome::Stop;
 
 // The stop of a stream that came to one.
 fn stop_in(stop: StreamStop<LiveRefusal>) -> PartStop

@@ -11,7 +11,7 @@ use drive_stream::{FinishFault, OpenFault, Streaming};
 use live_search::{LiveSearch, STEP};
 use obs_plan::Observation;
 use psr_base::{Failed, Sink};
-use run_stop::PlanCause;
+use run_outcome::PlanCause;
 use search_engine::PlanFault;
 use search_model::Search;
 use std::alloc::Global;

@@ -1,6 +1,6 @@
 // How the user is told.
 ghost use Rattle.std.specs.Prelude.{◌≡◌, None, Some, IfSome};
-ghost use Rattle.run_stop.specs.declared.stop.Stop.TheVariants.{Memory, ReadFault};
+ghost use Rattle.run_outcome.specs.declared.stop.Stop.TheVariants.{Memory, ReadFault};
 ghost use Rattle.psr_part.specs.declared.stop.CheckpointRefusal.{CheckpointRefusal};
 ghost use Rattle.psr_part.specs.declared.stop.PartStop.TheVariants.{Run, Refused};
 ghost use Rattle.psr_base.specs.Written.{Noted};
@@ -9,7 +9,7 @@ ghost use Rattle.psr_live.specs.Texts.{live_note};
 
 use psr_base::Sink;
 use psr_part::PartStop;
-use run_stop::{tell, tell_line};
+use run_outcome::{tell, tell_line};
 
 /// Tells why a search stopped, by a line to the notes, and answers the exit status. Where it came to no stop that is 0,
 /// and the notes take nothing. A fault of the notes changes nothing.

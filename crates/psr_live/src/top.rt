@@ -10,13 +10,13 @@ use crate::words::{LiveWords, live_words};
 use drive_stream::drive_stream;
 use psr_base::{Inputs, Sink};
 use psr_part::{PartStop, check_of};
-use run_stop::Stop;
+use run_outcome::Stop;
 use std::alloc::Global;
 use std::sync::Wait;
 use warm_restart::read_checkpoint;
 // Laws: they do nothing when they run, and the proofs use what they ensure.
 use drive_stream::causes_are_answered;
-use run_stop::words_say_once;
+use run_outcome::words_say_once;
 use stream_model::bytes_are_joined;
 
 /// No data have more spectra, 2^48.

@@ -2,12 +2,12 @@
 ghost use Rattle.std.specs.Prelude.{◌≡◌, ◌%◌, ◌<◌, ◌≤◌, true, false, length, map, string_bytes, IfSome, IfNone, IfOk, IfErr};
 ghost use Rattle.search_words.specs.Settings.{AllInRange, settings_seen};
 ghost use Rattle.warm_restart.specs.Counts.{greatest_count};
-ghost use Rattle.run_stop.specs.Lone.{SayAlone, ExplainsAlone};
+ghost use Rattle.run_outcome.specs.Lone.{SayAlone, ExplainsAlone};
 ghost use Rattle.live_search.specs.Live.{IsEvery};
 ghost use Rattle.psr_live.specs.Words.{every_in, has_form, live_alone};
 
+use drive_lone::settings_after;
 use live_search::STEP;
-use lone_run::settings_after;
 use psr_part::is_unfolded;
 use search_words::{Settings, WordFault};
 use std::alloc::Global;

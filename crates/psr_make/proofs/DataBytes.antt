@@ -41,38 +41,10 @@ pub record Places (f w p g k : ℕ) : Type 0 where
   pub byte : k % g < g
 
 pub places : (f w p g k : ℕ) → Shape w p g → Places f w p g k
-places f _ _ _ k single_bytes = record {
-  value = omega arith;
-  rest = omega arith;
-  cell = omega arith;
-  within = omega arith;
-  low = omega arith;
-  byte = omega arith;
-}
-places f _ _ _ k pairs_of_bytes = record {
-  value = omega arith;
-  rest = omega arith;
-  cell = omega arith;
-  within = omega arith;
-  low = omega arith;
-  byte = omega arith;
-}
-places f _ _ _ k single_words = record {
-  value = omega arith;
-  rest = omega arith;
-  cell = omega arith;
-  within = omega arith;
-  low = omega arith;
-  byte = omega arith;
-}
-places f _ _ _ k pairs_of_words = record {
-  value = omega arith;
-  rest = omega arith;
-  cell = omega arith;
-  within = omega arith;
-  low = omega arith;
-  byte = omega arith;
-}
+places f _ _ _ k single_bytes = grind arith
+places f _ _ _ k pairs_of_bytes = grind arith
+places f _ _ _ k single_words = grind arith
+places f _ _ _ k pairs_of_words = grind arith
 
 -- whole cells are whole values
 pub whole_values : (n w p g : ℕ) → Shape w p g → n * g % w ≡ 0

@@ -15,13 +15,7 @@ use Rattle.psr_make.specs.Request.{option_value, option_number, first_out_of_ran
 
 default_allowed : (opt : Opt) → limits_allow (option_row opt).limits (option_row opt).default ≡ true
 default_allowed Number = refl
-default_allowed Nchan = refl
-default_allowed Spectra = refl
-default_allowed Delay = refl
-default_allowed Period = refl
-default_allowed Height = refl
-default_allowed Nbit = refl
-default_allowed Npol = refl
+default_allowed opt = refl
 
 -- a value is one that its limits allow
 allowed : ValuesAreAllowed → (found : List Found) (opt : Opt) → is_some (option_value found opt) ≡ true →

@@ -1,8 +1,8 @@
 -- What is accepted is searched: at no other status nothing stands against it.
 use Rattle.std.proofs.Common.{◌≡◌, ◌⊎◌, inl, inr, refl, sym, lit<, arith}
 use Rattle.channel_mask.specs.MaskLaws.{MasksAreNotRefused}
-use Rattle.run_stop.specs.Runs.{Alone, stream_for}
-use Rattle.run_stop.specs.Ends.{AcceptedGoesOn}
+use Rattle.run_outcome.specs.Runs.{Alone, stream_for}
+use Rattle.run_outcome.specs.Ends.{AcceptedGoesOn}
 use Rattle.psr_mask.specs.Masking.{mask_search}
 use Rattle.psr_mask.specs.Outcome.{AcceptedIsSearched}
 use Rattle.psr_mask.proofs.Causes.{mask_not_refused, needed_told, refused_by}

@@ -14,15 +14,15 @@ use Rattle.disk_feeder.specs.declared.answers.HeaderCause.{HeaderCause}
 use Rattle.channel_mask.specs.MaskLaws.{MasksAreNotRefused}
 use Rattle.channel_mask.specs.Masks.{mask_of}
 use Rattle.channel_mask.specs.declared.fault.MaskFault.TheVariants as fault
-use Rattle.run_stop.specs.declared.causes.PlanCause.{PlanCause}
-use Rattle.run_stop.specs.declared.causes.RecordingCause.{RecordingCause}
-use Rattle.run_stop.specs.declared.stop.Stop.{Stop}
-use Rattle.run_stop.specs.declared.stop.Stop.TheVariants.{Header, Gap, TooLong}
-use Rattle.run_stop.specs.Texts.{status_of}
-use Rattle.run_stop.specs.Firsts.{first_name}
-use Rattle.run_stop.specs.Lone.{SayAlone}
-use Rattle.run_stop.specs.Runs.{Alone, first_observation, stream_for, stop_of_walk, CanBegin, RefusesFirstHeader, RefusesSearch, RefusesFirsts, RefusesSearches, RefusesRecordings, StopsWalk}
-use Rattle.run_stop.specs.Ends.{AcceptedIsNotRefused}
+use Rattle.run_outcome.specs.declared.causes.PlanCause.{PlanCause}
+use Rattle.run_outcome.specs.declared.causes.RecordingCause.{RecordingCause}
+use Rattle.run_outcome.specs.declared.stop.Stop.{Stop}
+use Rattle.run_outcome.specs.declared.stop.Stop.TheVariants.{Header, Gap, TooLong}
+use Rattle.run_outcome.specs.Texts.{status_of}
+use Rattle.run_outcome.specs.Firsts.{first_name}
+use Rattle.run_outcome.specs.Lone.{SayAlone}
+use Rattle.run_outcome.specs.Runs.{Alone, first_observation, stream_for, stop_of_walk, CanBegin, RefusesFirstHeader, RefusesSearch, RefusesFirsts, RefusesSearches, RefusesRecordings, StopsWalk}
+use Rattle.run_outcome.specs.Ends.{AcceptedIsNotRefused}
 use Rattle.psr_mask.specs.Masking.{AcceptsFirst, AcceptsMask, AcceptsMaskWord, RefusesFiles, RefusesMask, RefusesMaskWord, fault_of, mask_search, mask_word}
 use Rattle.psr_mask.specs.Notes.{mask_status}
 use Rattle.psr_mask.specs.Outcome.{IsOutcome, SearchSeen, HasMasked, IsSearched}

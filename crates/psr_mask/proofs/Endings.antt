@@ -19,24 +19,24 @@ use Rattle.search_words.specs.Settings.{SettingsSeen}
 use Rattle.stream_model.specs.Walk as walk
 use Rattle.stream_model.specs.Walk.{FileStream, walk_stop}
 use Rattle.disk_feeder.specs.Plan.{AreTold, AreToldAt, IsFirstFile}
-use Rattle.run_stop.specs.declared.stop.Stop.{Stop}
-use Rattle.run_stop.specs.declared.stop.Stop.TheVariants.{Words, Value, Header, Plan, Recording, Memory, ReadFault, Gap, TooLong, TooMany, SinkFault, FileFault}
-use Rattle.run_stop.specs.Texts.{status_of}
-use Rattle.run_stop.specs.Conversions.{stop_of_words, stop_of_feed}
-use Rattle.run_stop.specs.Firsts.{first_name}
-use Rattle.run_stop.specs.Lone.{SayAlone}
-use Rattle.run_stop.specs.Outcomes.{BreaksFirsts}
-use Rattle.run_stop.specs.Runs.{Alone, CanBegin, ForFirsts, OfEachFirst, first_observation, stream_for}
-use Rattle.run_stop.specs.Ends.{CountsFaults, StopsBefore, WordsSayOnce, short_statuses}
+use Rattle.run_outcome.specs.declared.stop.Stop.{Stop}
+use Rattle.run_outcome.specs.declared.stop.Stop.TheVariants.{Words, Value, Header, Plan, Recording, Memory, ReadFault, Gap, TooLong, TooMany, SinkFault, FileFault}
+use Rattle.run_outcome.specs.Texts.{status_of}
+use Rattle.run_outcome.specs.Conversions.{stop_of_words, stop_of_feed}
+use Rattle.run_outcome.specs.Firsts.{first_name}
+use Rattle.run_outcome.specs.Lone.{SayAlone}
+use Rattle.run_outcome.specs.Outcomes.{BreaksFirsts}
+use Rattle.run_outcome.specs.Runs.{Alone, CanBegin, ForFirsts, OfEachFirst, first_observation, stream_for}
+use Rattle.run_outcome.specs.Ends.{CountsFaults, StopsBefore, WordsSayOnce, short_statuses}
 use Rattle.search_opening.specs.Plans.{IsOfPlan}
-use Rattle.lone_run.specs.declared.found.LoneFound.{LoneFound}
-use Rattle.lone_run.specs.declared.stop.LoneStop.{LoneStop}
-use Rattle.lone_run.specs.declared.stop.LoneStop.TheVariants.{Run, Unscoped}
-use Rattle.lone_run.specs.Found.{IsFoundAlone, HasFoundAll}
-use Rattle.lone_run.specs.Scopes.{SaysObservation}
-use Rattle.lone_run.specs.Stops.{BeginsWith, StopsAlone, FailsReading}
-use Rattle.lone_run.specs.Outcomes.{RunsAlone, EndsAlone}
-use Rattle.lone_run.specs.EndLaws.{AloneBeforeSession, AloneAtOwnStop, AloneAtFeedStop, AloneAfterWhole, GoesThrough}
+use Rattle.drive_lone.specs.declared.found.LoneFound.{LoneFound}
+use Rattle.drive_lone.specs.declared.stop.LoneStop.{LoneStop}
+use Rattle.drive_lone.specs.declared.stop.LoneStop.TheVariants.{Run, Unscoped}
+use Rattle.drive_lone.specs.Found.{IsFoundAlone, HasFoundAll}
+use Rattle.drive_lone.specs.Scopes.{SaysObservation}
+use Rattle.drive_lone.specs.Stops.{BeginsWith, StopsAlone, FailsReading}
+use Rattle.drive_lone.specs.Outcomes.{RunsAlone, EndsAlone}
+use Rattle.drive_lone.specs.EndLaws.{AloneBeforeSession, AloneAtOwnStop, AloneAtFeedStop, AloneAfterWhole, GoesThrough}
 use Rattle.psr_mask.specs.Masking.{ForMask, AcceptsMask, AcceptsMaskWord, RefusesMask, RefusesMaskWord, ScopesMask, mask_search, mask_word, masked_list, text_without}
 use Rattle.psr_mask.specs.Notes.{mask_status, end_status}
 use Rattle.psr_mask.specs.Outcome.{Answered, HasMasked, HasText, JudgesMask, Outcome, TellsMask, WritesMasked}
@@ -469,8 +469,9 @@ pub outcome : (words : List (List ℕ)) (inputs : InputsSeen) (is_calm : Type 0)
     (blocks : Option Finished) (status : ℕ) → Ends words inputs is_calm out_before out_after stop blocks →
     status ≡ end_status stop → TellsMask words inputs.told notes_before notes_after status →
     Outcome words inputs is_calm out_before out_after notes_before notes_after
-    (record { status = status; blocks = blocks })
+    (record { status = status; blocks = blocks; recorded = None })
 outcome words inputs is_calm out_before out_after notes_before notes_after stop blocks status e is noted = record {
   answered = subst (λ n. Answered words inputs is_calm out_before out_after blocks n) (sym is) e.answered;
+  unrecorded = refl;
   noted = noted;
 }

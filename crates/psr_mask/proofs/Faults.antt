@@ -3,12 +3,12 @@ use Rattle.std.proofs.Common.{◌≡◌, Some, None, Err, refl, sym, subst}
 use Rattle.std.specs.Prelude.{Option}
 use Rattle.search_words.specs.declared.fault.WordFault.{WordFault}
 use Rattle.search_words.specs.declared.fault.WordFault.TheVariants as words_fault
-use Rattle.run_stop.specs.Conversions.{stop_of_words}
-use Rattle.run_stop.specs.declared.stop.Stop.{Stop}
-use Rattle.run_stop.specs.declared.stop.Stop.TheVariants.{ReadFault}
-use Rattle.lone_run.specs.declared.stop.LoneStop.{LoneStop}
-use Rattle.lone_run.specs.declared.stop.LoneStop.TheVariants.{Run}
-use Rattle.lone_run.specs.Stops.{FailsReading}
+use Rattle.run_outcome.specs.Conversions.{stop_of_words}
+use Rattle.run_outcome.specs.declared.stop.Stop.{Stop}
+use Rattle.run_outcome.specs.declared.stop.Stop.TheVariants.{ReadFault}
+use Rattle.drive_lone.specs.declared.stop.LoneStop.{LoneStop}
+use Rattle.drive_lone.specs.declared.stop.LoneStop.TheVariants.{Run}
+use Rattle.drive_lone.specs.Stops.{FailsReading}
 use Rattle.psr_mask.specs.Ends.{as_alone}
 use Rattle.psr_mask.specs.declared.refusal.MaskRefusal.{MaskRefusal}
 

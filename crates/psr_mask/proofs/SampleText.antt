@@ -17,8 +17,8 @@ use Rattle.search_words.specs.Settings.{SettingsSeen}
 use Rattle.search_words.specs.Defaults.{default_settings, sample_search}
 use Rattle.stream_model.specs.Walk.{FileStream, data_of, data_between, observation_at, transfer_data}
 use Rattle.disk_feeder.specs.Plan.{AreTold}
-use Rattle.run_stop.specs.Lone.{SayAlone}
-use Rattle.run_stop.specs.Runs.{first_observation, stream_for}
+use Rattle.run_outcome.specs.Lone.{SayAlone}
+use Rattle.run_outcome.specs.Runs.{first_observation, stream_for}
 use Rattle.psr_mask.specs.Masking.{mask_search, text_without}
 use Rattle.psr_mask.specs.Sample.{sample_words, sample_data, sample_file, sample_text, SampleIsFound}
 

@@ -5,10 +5,10 @@ use Rattle.psr_base.specs.Count.{Rose}
 use Rattle.search_words.specs.Settings.{SettingsSeen}
 use Rattle.stream_model.specs.Walk.{FileStream}
 use Rattle.disk_feeder.specs.declared.answers.HeaderCause.{HeaderCause}
-use Rattle.run_stop.specs.declared.causes.PlanCause.{PlanCause}
-use Rattle.run_stop.specs.declared.stop.Stop.{Stop}
-use Rattle.run_stop.specs.Texts.{status_of}
-use Rattle.run_stop.specs.Runs.{Alone, RefusesFirstHeader, RefusesSearch, StopsWalk}
+use Rattle.run_outcome.specs.declared.causes.PlanCause.{PlanCause}
+use Rattle.run_outcome.specs.declared.stop.Stop.{Stop}
+use Rattle.run_outcome.specs.Texts.{status_of}
+use Rattle.run_outcome.specs.Runs.{Alone, RefusesFirstHeader, RefusesSearch, StopsWalk}
 use Rattle.psr_mask.specs.Masking.{AcceptsFirst, RefusesFiles, mask_search, text_without}
 use Rattle.psr_mask.specs.Notes.{mask_status}
 use Rattle.psr_mask.specs.Outcome.{ForOutcomes, ForOutcomesByFirst, HasMasked}

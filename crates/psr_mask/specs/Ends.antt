@@ -11,12 +11,12 @@ use Rattle.search_model.specs.Masks.{masked_candidates_of, masked_text}
 use Rattle.search_engine.specs.Engine.{EngineState, HasFoundPart}
 use Rattle.search_engine.specs.Scope.{kept_by}
 use Rattle.channel_mask.specs.Masked.{SearchesKept}
-use Rattle.run_stop.specs.declared.stop.Stop.{Stop}
-use Rattle.run_stop.specs.declared.stop.Stop.TheVariants.{TooMany, SinkFault}
-use Rattle.run_stop.specs.Ends.{IsSaid}
-use Rattle.run_stop.specs.Runs.{Alone}
-use Rattle.lone_run.specs.declared.stop.LoneStop.{LoneStop}
-use Rattle.lone_run.specs.declared.stop.LoneStop.TheVariants.{Run, Unscoped}
+use Rattle.run_outcome.specs.declared.stop.Stop.{Stop}
+use Rattle.run_outcome.specs.declared.stop.Stop.TheVariants.{TooMany, SinkFault}
+use Rattle.run_outcome.specs.Ends.{IsSaid}
+use Rattle.run_outcome.specs.Runs.{Alone}
+use Rattle.drive_lone.specs.declared.stop.LoneStop.{LoneStop}
+use Rattle.drive_lone.specs.declared.stop.LoneStop.TheVariants.{Run, Unscoped}
 use Rattle.psr_mask.specs.Masking.{RefusesMaskWord, mask_search}
 use Rattle.psr_mask.specs.Notes.{end_status}
 use Rattle.psr_mask.specs.Outcome.{Answered}

@@ -14,9 +14,9 @@ use Rattle.channel_mask.specs.Masks.{IsMaskOf, ExplainsMask, mask_of}
 use Rattle.channel_mask.specs.Masked.{IsScopeOf}
 use Rattle.channel_mask.specs.declared.fault.MaskFault.{MaskFault}
 use Rattle.channel_mask.specs.declared.fault.MaskFault.TheVariants as fault
-use Rattle.run_stop.specs.Lone.{LoneSearch}
-use Rattle.run_stop.specs.Runs.{Alone, ForFiles, first_observation}
-use Rattle.lone_run.specs.Stops.{RefusesFirst, ForHeader}
+use Rattle.run_outcome.specs.Lone.{LoneSearch}
+use Rattle.run_outcome.specs.Runs.{Alone, ForFiles, first_observation}
+use Rattle.drive_lone.specs.Stops.{RefusesFirst, ForHeader}
 use Rattle.psr_mask.specs.declared.refusal.MaskRefusal.{MaskRefusal}
 use Rattle.psr_mask.specs.declared.refusal.MaskRefusal.TheVariants.{BadMask, OutOfRange, AllMasked}
 

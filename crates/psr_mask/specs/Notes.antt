@@ -2,9 +2,9 @@
 -- Source: this project's choice.
 use Rattle.std.specs.Prelude.{ℕ, List, ◌++◌, codes, Option, Some, None}
 use Rattle.std.specs.Fmt.{decimal}
-use Rattle.run_stop.specs.Texts.{status_of}
-use Rattle.lone_run.specs.declared.stop.LoneStop.{LoneStop}
-use Rattle.lone_run.specs.declared.stop.LoneStop.TheVariants.{Run, Unscoped}
+use Rattle.run_outcome.specs.Texts.{status_of}
+use Rattle.drive_lone.specs.declared.stop.LoneStop.{LoneStop}
+use Rattle.drive_lone.specs.declared.stop.LoneStop.TheVariants.{Run, Unscoped}
 use Rattle.psr_mask.specs.declared.refusal.MaskRefusal.{MaskRefusal}
 use Rattle.psr_mask.specs.declared.refusal.MaskRefusal.TheVariants.{BadMask, OutOfRange, AllMasked}
 

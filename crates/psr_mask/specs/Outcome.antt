@@ -8,12 +8,12 @@ use Rattle.ring_ends.specs.declared.finished.Finished.{Finished}
 use Rattle.search_words.specs.Settings.{SettingsSeen}
 use Rattle.stream_model.specs.Walk.{FileStream}
 use Rattle.disk_feeder.specs.Plan.{AreTold, AreToldAt, IsFirstFile}
-use Rattle.run_stop.specs.declared.ran.Ran.{Ran}
-use Rattle.run_stop.specs.Firsts.{first_name}
-use Rattle.run_stop.specs.Lone.{SayAlone}
-use Rattle.run_stop.specs.Outcomes.{NotesStop}
-use Rattle.run_stop.specs.Runs.{Alone, FindsAlone, stream_for}
-use Rattle.lone_run.specs.Outcomes.{RunsAlone}
+use Rattle.run_outcome.specs.declared.ran.Ran.{Ran}
+use Rattle.run_outcome.specs.Firsts.{first_name}
+use Rattle.run_outcome.specs.Lone.{SayAlone}
+use Rattle.run_outcome.specs.Outcomes.{NotesStop}
+use Rattle.run_outcome.specs.Runs.{Alone, FindsAlone, stream_for}
+use Rattle.drive_lone.specs.Outcomes.{RunsAlone}
 use Rattle.psr_mask.specs.Masking.{ForMask, AcceptsFirst, AcceptsMaskWord, RefusesMaskWord, mask_search, text_without}
 use Rattle.psr_mask.specs.Notes.{mask_status, mask_note}
 use Rattle.psr_mask.specs.declared.refusal.MaskRefusal.{MaskRefusal}
@@ -89,6 +89,8 @@ pub record Answered (words : List (List ℕ)) (inputs : InputsSeen) (is_calm : T
 pub record Outcome (words : List (List ℕ)) (inputs : InputsSeen) (is_calm : Type 0)
     (out_before out_after notes_before notes_after : SinkSeen) (ran : Ran) : Type 0 where
   pub answered : Answered words inputs is_calm out_before out_after ran.blocks ran.status
+  -- there is no recorder
+  pub unrecorded : ran.recorded ≡ None
   pub noted : TellsMask words inputs.told notes_before notes_after ran.status
 
 -- ---- the other way round, from what is accepted or refused to the status

@@ -1,15 +1,15 @@
 // A search over objects in memory.
 ghost use Rattle.std.specs.Prelude.{◌≡◌, [], map, string_bytes};
 ghost use Rattle.psr_base.specs.InMemory.{told_of, calls_of, sink_seen};
-ghost use Rattle.run_stop.specs.Outcomes.{ReadsNoData, LeavesAtFault};
-ghost use Rattle.run_stop.specs.Runs.{Alone};
-ghost use Rattle.lone_run.specs.Stops.{ReadsHeader};
+ghost use Rattle.run_outcome.specs.Outcomes.{ReadsNoData, LeavesAtFault};
+ghost use Rattle.run_outcome.specs.Runs.{Alone};
+ghost use Rattle.drive_lone.specs.Stops.{ReadsHeader};
 ghost use Rattle.psr_mask.specs.Masking.{mask_search};
 ghost use Rattle.psr_mask.specs.Outcome.{Outcome};
 
 use crate::top::run_mask;
 use psr_base::{MemInputs, MemSink};
-use run_stop::Ran;
+use run_outcome::Ran;
 use std::alloc::Global;
 use std::sync::Wait;
 

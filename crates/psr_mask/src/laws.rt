@@ -7,7 +7,7 @@ ghost use Rattle.psr_mask.specs.Sample.{SampleIsFound};
 use psr_base::Inputs;
 // Laws: they do nothing when they run, and the proofs use what they ensure.
 use channel_mask::masks_are_not_refused;
-use run_stop::{accepted_goes_on, accepted_is_not_refused};
+use run_outcome::{accepted_goes_on, accepted_is_not_refused};
 
 /// If arguments, first header, mask, plan and data are accepted, they are searched, or there is no memory, provided
 /// that neither the inputs nor the output count a fault.

@@ -1,12 +1,12 @@
 // What a mask text gives for an observation.
 ghost use Rattle.dada_model.specs.Observation.{Observation as Described};
 ghost use Rattle.channel_mask.specs.Masks.{ExplainsMask};
-ghost use Rattle.lone_run.specs.Scopes.{ExplainsScope};
+ghost use Rattle.drive_lone.specs.Scopes.{ExplainsScope};
 ghost use Rattle.psr_mask.specs.Masking.{RefusesMask};
 
 use crate::refusal::MaskRefusal;
 use channel_mask::{Mask, MaskFault};
-use lone_run::{ScopeFault, Scoping};
+use drive_lone::{ScopeFault, Scoping};
 use obs_plan::Observation;
 use psr_base::Memory;
 use search_engine::Scope;

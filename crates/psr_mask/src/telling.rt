@@ -1,16 +1,16 @@
 // How the user is told.
 ghost use Rattle.std.specs.Prelude.{◌≡◌, ℕ, List, Some};
 ghost use Rattle.psr_base.specs.Told.{Told};
-ghost use Rattle.run_stop.specs.declared.stop.Stop.TheVariants.{Memory, ReadFault};
-ghost use Rattle.lone_run.specs.declared.stop.LoneStop.TheVariants.{Run, Unscoped};
+ghost use Rattle.run_outcome.specs.declared.stop.Stop.TheVariants.{Memory, ReadFault};
+ghost use Rattle.drive_lone.specs.declared.stop.LoneStop.TheVariants.{Run, Unscoped};
 ghost use Rattle.psr_mask.specs.Notes.{end_status, mask_status};
 ghost use Rattle.psr_mask.specs.Ends.{IsSaidOf};
 ghost use Rattle.psr_mask.specs.Outcome.{TellsMask};
 
 use crate::refusal::MaskRefusal;
-use lone_run::LoneStop;
+use drive_lone::LoneStop;
 use psr_base::Sink;
-use run_stop::{tell, tell_line};
+use run_outcome::{tell, tell_line};
 
 // The exit status of a mask that is refused.
 const MASK_REFUSED: u8 = 12;

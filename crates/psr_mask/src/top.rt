@@ -1,8 +1,8 @@
 // The top call.
 ghost use Rattle.std.specs.Prelude.{◌≡◌, Some, map, string_bytes};
-ghost use Rattle.run_stop.specs.Outcomes.{ReadsNoData, LeavesAtFault};
-ghost use Rattle.run_stop.specs.Runs.{Alone};
-ghost use Rattle.lone_run.specs.Stops.{ReadsHeader};
+ghost use Rattle.run_outcome.specs.Outcomes.{ReadsNoData, LeavesAtFault};
+ghost use Rattle.run_outcome.specs.Runs.{Alone};
+ghost use Rattle.drive_lone.specs.Stops.{ReadsHeader};
 ghost use Rattle.psr_mask.specs.Masking.{mask_search};
 ghost use Rattle.psr_mask.specs.Outcome.{Outcome};
 ghost use Rattle.psr_mask.specs.Ends.{Ends, as_alone};
@@ -11,17 +11,17 @@ use crate::refusal::MaskRefusal;
 use crate::telling::tell_mask;
 use crate::words::{mask_word, settings_of};
 use crate::writing::write_end;
-use lone_run::{LoneFound, LoneStop, drive_alone};
+use drive_lone::{LoneFound, LoneStop, drive_alone};
 use psr_base::{Inputs, Sink};
 use ring_ends::Finished;
-use run_stop::{Ran, Stop};
+use run_outcome::{Ran, Stop};
 use std::alloc::Global;
 use std::sync::Wait;
 // Laws: they do nothing when they run, and the proofs use what they ensure.
-use lone_run::{
+use drive_lone::{
     alone_after_whole, alone_at_feed_stop, alone_at_own_stop, alone_at_words, alone_before_session,
 };
-use run_stop::words_say_once;
+use run_outcome::words_say_once;
 
 // How a search ended: its stop, or none if it went to its end; and what went through its data ring, if there was one.
 #[derive(Drop)]
@@ -74,7 +74,11 @@ pub fn run_mask<R: Wait, I: Inputs, K: Sink, E: Sink>(
 {
     let Ended { stop, blocks } = search(rt, alloc, words, inputs, out);
     let status = tell_mask(stop, notes);
-    Ran { status, blocks }
+    Ran {
+        status,
+        blocks,
+        recorded: None,
+    }
 }
 
 // Searches as `run_mask` does, without the notes.

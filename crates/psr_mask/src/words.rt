@@ -1,11 +1,11 @@
 // The arguments of a search without masked channels.
 ghost use Rattle.std.specs.Prelude.{◌≡◌, ◌≤◌, map, string_bytes, length, IfOk, IfErr, OnOk};
 ghost use Rattle.search_words.specs.Settings.{AllInRange, settings_seen};
-ghost use Rattle.run_stop.specs.Lone.{SayAlone, ExplainsAlone};
+ghost use Rattle.run_outcome.specs.Lone.{SayAlone, ExplainsAlone};
 ghost use Rattle.psr_mask.specs.Masking.{mask_search, mask_word as mask_word_of};
 
 use crate::masking::MaskWord;
-use lone_run::settings_after;
+use drive_lone::settings_after;
 use search_words::{Settings, WordFault};
 use std::alloc::Global;
 

@@ -1,7 +1,7 @@
 // The text of what was found.
 ghost use Rattle.std.specs.Prelude.{◌≡◌, ◌≢◌, ℕ, Bool, List, Some, IfSome};
 ghost use Rattle.disk_feeder.specs.declared.answers.FeedEnd.TheVariants.{Whole, ReadFault};
-ghost use Rattle.run_stop.specs.Conversions.{stop_of_feed};
+ghost use Rattle.run_outcome.specs.Conversions.{stop_of_feed};
 ghost use Rattle.channel_mask.specs.Masked.{HasFoundKept};
 ghost use Rattle.psr_mask.specs.Ends.{HoldsKept, EndsFed, EndsMasked};
 
@@ -10,7 +10,7 @@ use channel_mask::{MaskEngine, write_masked};
 use disk_feeder::FeedEnd;
 use obs_plan::Observation;
 use psr_base::Sink;
-use run_stop::Stop;
+use run_outcome::Stop;
 use search_engine::Engine;
 use search_model::Search;
 

@@ -21,15 +21,15 @@ use Rattle.warm_restart.specs.declared.checkpoint.CheckpointFault.{CheckpointFau
 use Rattle.warm_restart.specs.declared.checkpoint.CheckpointFault.TheVariants as check
 use Rattle.warm_restart.specs.Checkpoint.{IsJudged}
 use Rattle.warm_restart.specs.Warm.{text_of_part}
-use Rattle.run_stop.specs.declared.stop.Stop.{Stop}
-use Rattle.run_stop.specs.declared.stop.Stop.TheVariants.{Words, Value, Header, Plan, Recording, Memory, ReadFault, Gap, TooLong, TooMany, SinkFault, FileFault}
-use Rattle.run_stop.specs.Texts.{status_of}
-use Rattle.run_stop.specs.Conversions.{stop_of_words, stop_of_feed}
-use Rattle.run_stop.specs.Lone.{SayAlone, ExplainsAlone}
-use Rattle.run_stop.specs.Runs.{stream_for, first_observation, CanBegin, FindsAlone, IsTooMany}
-use Rattle.run_stop.specs.Ends.{short_statuses, CountsFaults, WordsSayOnce}
-use Rattle.lone_run.specs.Outcomes.{RunsAlone, EndsAlone}
-use Rattle.lone_run.specs.EndLaws.{AloneAtWords, AloneBeforeSession, AloneAtOwnStop, AloneAtFeedStop, AloneAfterWhole, GoesThrough}
+use Rattle.run_outcome.specs.declared.stop.Stop.{Stop}
+use Rattle.run_outcome.specs.declared.stop.Stop.TheVariants.{Words, Value, Header, Plan, Recording, Memory, ReadFault, Gap, TooLong, TooMany, SinkFault, FileFault}
+use Rattle.run_outcome.specs.Texts.{status_of}
+use Rattle.run_outcome.specs.Conversions.{stop_of_words, stop_of_feed}
+use Rattle.run_outcome.specs.Lone.{SayAlone, ExplainsAlone}
+use Rattle.run_outcome.specs.Runs.{stream_for, first_observation, CanBegin, FindsAlone, IsTooMany}
+use Rattle.run_outcome.specs.Ends.{short_statuses, CountsFaults, WordsSayOnce}
+use Rattle.drive_lone.specs.Outcomes.{RunsAlone, EndsAlone}
+use Rattle.drive_lone.specs.EndLaws.{AloneAtWords, AloneBeforeSession, AloneAtOwnStop, AloneAtFeedStop, AloneAfterWhole, GoesThrough}
 use Rattle.psr_part.specs.declared.stop.CheckpointRefusal.{CheckpointRefusal}
 use Rattle.psr_part.specs.declared.stop.CheckpointRefusal.TheVariants.{Form, Place, Beyond}
 use Rattle.psr_part.specs.declared.stop.PartStop.{PartStop}
@@ -384,7 +384,7 @@ pub outcome : (words : List (List ℕ)) (inputs : InputsSeen) (is_calm : Type 0)
     ((from : Checkpoint) → IsPartSaid words from inputs.told blocks stop →
     TellsPart words from inputs.told blocks notes_before notes_after status) →
     Outcome words inputs is_calm out_before out_after notes_before notes_after
-    (record { status = status; blocks = blocks })
+    (record { status = status; blocks = blocks; recorded = None })
 outcome words inputs is_calm out_before out_after notes_before notes_after stop blocks status e is noted =
     record {
       from = e.from;
@@ -395,5 +395,6 @@ outcome words inputs is_calm out_before out_after notes_before notes_after stop 
       run = subst (λ n. RunsAlone 13 (part_search words e.from) words inputs
           (is_calm × HoldsAll inputs.told (check_names words)) blocks n) (sym is) e.run;
       too_many = λ nine. e.too_many (sym is ∙ nine);
+      unrecorded = refl;
       noted = noted e.from e.said;
     }

@@ -11,12 +11,12 @@ use Rattle.warm_restart.specs.declared.checkpoint.Checkpoint.{Checkpoint}
 use Rattle.warm_restart.specs.declared.checkpoint.CheckpointFault.{CheckpointFault}
 use Rattle.warm_restart.specs.declared.checkpoint.CheckpointFault.TheVariants as check
 use Rattle.warm_restart.specs.Named.{most_read, named_text, new_word}
-use Rattle.run_stop.specs.declared.stop.Stop.{Stop}
-use Rattle.run_stop.specs.declared.stop.Stop.TheVariants.{Memory, ReadFault}
-use Rattle.run_stop.specs.Conversions.{stop_of_words}
-use Rattle.lone_run.specs.declared.stop.LoneStop.{LoneStop}
-use Rattle.lone_run.specs.declared.stop.LoneStop.TheVariants as lone
-use Rattle.lone_run.specs.Stops.{FailsReading}
+use Rattle.run_outcome.specs.declared.stop.Stop.{Stop}
+use Rattle.run_outcome.specs.declared.stop.Stop.TheVariants.{Memory, ReadFault}
+use Rattle.run_outcome.specs.Conversions.{stop_of_words}
+use Rattle.drive_lone.specs.declared.stop.LoneStop.{LoneStop}
+use Rattle.drive_lone.specs.declared.stop.LoneStop.TheVariants as lone
+use Rattle.drive_lone.specs.Stops.{FailsReading}
 use Rattle.psr_part.specs.declared.stop.PartStop.{PartStop}
 use Rattle.psr_part.specs.declared.stop.PartStop.TheVariants.{Run}
 use Rattle.psr_part.specs.Texts.{stop_of_checkpoint}

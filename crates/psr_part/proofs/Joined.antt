@@ -21,7 +21,7 @@ use Rattle.warm_restart.specs.Checkpoint.{CanBeSaid}
 use Rattle.warm_restart.specs.Laws.{TextsSayOne, LinesAreReadBack}
 use Rattle.warm_restart.specs.Joins.{PartTextsJoin, lines_of_part, checkpoint_at}
 use Rattle.warm_restart.specs.Warm.{text_of_part}
-use Rattle.run_stop.specs.Runs.{stream_for, first_observation}
+use Rattle.run_outcome.specs.Runs.{stream_for, first_observation}
 use Rattle.psr_part.specs.Part.{until_in, check_text_of, spectra_in, text_in_part, GoesOnFrom}
 use Rattle.psr_part.specs.Outcome.{HasText}
 use Rattle.psr_part.specs.Causes.{PartSeen}

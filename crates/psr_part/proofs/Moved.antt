@@ -19,13 +19,13 @@ use Rattle.disk_feeder.specs.Reading.{judged_at}
 use Rattle.disk_feeder.specs.declared.answers.HeaderCause.TheVariants.{Text, Fields}
 use Rattle.warm_restart.specs.declared.checkpoint.Checkpoint.{Checkpoint}
 use Rattle.warm_restart.specs.Named.{new_word}
-use Rattle.run_stop.specs.declared.stop.Stop.{Stop}
-use Rattle.run_stop.specs.declared.stop.Stop.TheVariants.{Words, Value, Header, Plan, Recording, Memory, ReadFault, Gap, TooLong, TooMany, SinkFault, FileFault}
-use Rattle.run_stop.specs.Lone.{LoneSearch, SayAlone}
-use Rattle.run_stop.specs.Firsts.{first_name, EachFirst, RefusesFieldsAt, RefusesFirstFields}
-use Rattle.run_stop.specs.Runs.{Task, Alone, ForFilesAt, ForFirsts, ForFilesTo, JudgesFirsts, BeginsByFirsts, MayBegin, CanBegin, RefusesSearch, RefusesSearchAt, RefusesToRecord, RefusesRecordingAt}
-use Rattle.run_stop.specs.Outcomes.{LeavesAtFault}
-use Rattle.run_stop.specs.Ends.{CountsFaults, StopsBefore, SaysBefore, IsRunFed}
+use Rattle.run_outcome.specs.declared.stop.Stop.{Stop}
+use Rattle.run_outcome.specs.declared.stop.Stop.TheVariants.{Words, Value, Header, Plan, Recording, Memory, ReadFault, Gap, TooLong, TooMany, SinkFault, FileFault}
+use Rattle.run_outcome.specs.Lone.{LoneSearch, SayAlone}
+use Rattle.run_outcome.specs.Firsts.{first_name, EachFirst, RefusesFieldsAt, RefusesFirstFields}
+use Rattle.run_outcome.specs.Runs.{Task, Alone, ForFilesAt, ForFirsts, ForFilesTo, JudgesFirsts, BeginsByFirsts, MayBegin, CanBegin, RefusesSearch, RefusesSearchAt, RefusesToRecord, RefusesRecordingAt}
+use Rattle.run_outcome.specs.Outcomes.{LeavesAtFault}
+use Rattle.run_outcome.specs.Ends.{CountsFaults, StopsBefore, SaysBefore, IsRunFed}
 use Rattle.search_opening.specs.Settings.{OfRun, OfRunAt, OfRunFirsts}
 use Rattle.psr_part.specs.Part.{check_word, check_names, check_text_of, part_search}
 
@@ -182,6 +182,7 @@ where_calm task words first next before after None calm is = λ s said. let b = 
   there = b.there;
   earlier = b.earlier;
   broke = b.broke;
+  through = b.through;
   missing = λ c. b.missing (calm c);
   unopened = λ c. b.unopened (calm c);
 }
@@ -192,6 +193,8 @@ where_calm task words first next before after (Some blocks) calm is = record {
   passed = is.passed;
   cut = is.cut;
   stood = is.stood;
+  past = is.past;
+  through = is.through;
   missing = λ c. is.missing (calm c);
   shut = λ c. is.shut (calm c);
   unopened = λ c. is.unopened (calm c);

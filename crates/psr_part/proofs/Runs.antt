@@ -22,20 +22,20 @@ use Rattle.warm_restart.specs.Named.{most_read, named_text, new_word, ReadsFront
 use Rattle.search_model.specs.declared.search.Search.{Search}
 use Rattle.warm_restart.specs.declared.warm.Warm.{Warm}
 use Rattle.warm_restart.specs.Warm.{IsPart, IsWarmOf, SearchedPart, part_scope}
-use Rattle.run_stop.specs.declared.stop.Stop.{Stop}
-use Rattle.run_stop.specs.declared.stop.Stop.TheVariants.{Memory, ReadFault}
-use Rattle.run_stop.specs.Conversions.{stop_of_feed}
-use Rattle.run_stop.specs.Lone.{SayAlone}
-use Rattle.run_stop.specs.Runs.{first_observation}
-use Rattle.run_stop.specs.Ends.{StopsBefore, WordsSayOnce, IsRunFed}
-use Rattle.run_stop.specs.Outcomes.{AllCleared}
+use Rattle.run_outcome.specs.declared.stop.Stop.{Stop}
+use Rattle.run_outcome.specs.declared.stop.Stop.TheVariants.{Memory, ReadFault}
+use Rattle.run_outcome.specs.Conversions.{stop_of_feed}
+use Rattle.run_outcome.specs.Lone.{SayAlone}
+use Rattle.run_outcome.specs.Runs.{first_observation}
+use Rattle.run_outcome.specs.Ends.{StopsBefore, WordsSayOnce, IsRunFed}
+use Rattle.run_outcome.specs.Outcomes.{AllCleared}
 use Rattle.search_opening.specs.Settings.{OfRun, OfRunFirsts}
-use Rattle.lone_run.specs.declared.found.LoneFound.{LoneFound}
-use Rattle.lone_run.specs.declared.stop.LoneStop.{LoneStop}
-use Rattle.lone_run.specs.declared.stop.LoneStop.TheVariants as lone
-use Rattle.lone_run.specs.Stops.{FailsReading, StopsAlone}
-use Rattle.lone_run.specs.Found.{HasFoundAll, IsFoundAlone}
-use Rattle.lone_run.specs.EndLaws.{AloneBeforeSession, AloneAtOwnStop, AloneAtFeedStop, AloneAfterWhole}
+use Rattle.drive_lone.specs.declared.found.LoneFound.{LoneFound}
+use Rattle.drive_lone.specs.declared.stop.LoneStop.{LoneStop}
+use Rattle.drive_lone.specs.declared.stop.LoneStop.TheVariants as lone
+use Rattle.drive_lone.specs.Stops.{FailsReading, StopsAlone}
+use Rattle.drive_lone.specs.Found.{HasFoundAll, IsFoundAlone}
+use Rattle.drive_lone.specs.EndLaws.{AloneBeforeSession, AloneAtOwnStop, AloneAtFeedStop, AloneAfterWhole}
 use Rattle.psr_part.specs.declared.stop.PartStop.{PartStop}
 use Rattle.psr_part.specs.declared.stop.CheckpointRefusal.{CheckpointRefusal}
 use Rattle.psr_part.specs.declared.stop.PartStop.TheVariants.{Run, Refused}

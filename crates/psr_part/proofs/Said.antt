@@ -5,7 +5,7 @@ use Rattle.search_words.specs.declared.fault.WordFault.{WordFault}
 use Rattle.search_words.specs.declared.fault.WordFault.TheVariants.{Refused, OutOfRange, Memory}
 use Rattle.warm_restart.specs.declared.checkpoint.Checkpoint.{Checkpoint}
 use Rattle.warm_restart.specs.Counts.{until_of}
-use Rattle.run_stop.specs.Lone.{ExplainsOneSearch, ExplainsAlone}
+use Rattle.run_outcome.specs.Lone.{ExplainsOneSearch, ExplainsAlone}
 use Rattle.psr_part.specs.Part.{until_in, until_word, has_form, part_search}
 
 -- what the words say where they have the form

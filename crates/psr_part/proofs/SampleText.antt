@@ -19,8 +19,8 @@ use Rattle.warm_restart.specs.declared.checkpoint.Checkpoint.{Checkpoint}
 use Rattle.warm_restart.specs.Counts.{until_of}
 use Rattle.warm_restart.specs.Laws.{TextsSayOne, LinesAreReadBack}
 use Rattle.warm_restart.specs.Warm.{text_of_part}
-use Rattle.run_stop.specs.Lone.{SayAlone}
-use Rattle.run_stop.specs.Runs.{stream_for, first_observation}
+use Rattle.run_outcome.specs.Lone.{SayAlone}
+use Rattle.run_outcome.specs.Runs.{stream_for, first_observation}
 use Rattle.psr_part.specs.Part.{until_in, has_form, check_text_of, text_in_part, part_search}
 use Rattle.psr_part.specs.Sample.{sample_words, sample_data, sample_file, sample_text, SampleIsFound}
 use Rattle.psr_part.proofs.Causes.{one_said}

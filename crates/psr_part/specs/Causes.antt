@@ -8,14 +8,14 @@ use Rattle.search_words.specs.Settings.{SettingsSeen}
 use Rattle.stream_model.specs.Walk.{FileStream}
 use Rattle.disk_feeder.specs.declared.answers.HeaderCause.{HeaderCause}
 use Rattle.disk_feeder.specs.Plan.{AreTold}
-use Rattle.run_stop.specs.declared.ran.Ran.{Ran}
+use Rattle.run_outcome.specs.declared.ran.Ran.{Ran}
 use Rattle.warm_restart.specs.declared.checkpoint.Checkpoint.{Checkpoint}
 use Rattle.warm_restart.specs.Checkpoint.{IsCheckpointText, IsNoCheckpointText}
-use Rattle.run_stop.specs.declared.causes.PlanCause.{PlanCause}
-use Rattle.run_stop.specs.declared.stop.Stop.{Stop}
-use Rattle.run_stop.specs.Texts.{status_of}
-use Rattle.run_stop.specs.Lone.{SayAlone}
-use Rattle.run_stop.specs.Runs.{stream_for, RefusesFirstHeader, RefusesSearch, StopsWalk, FindsAlone}
+use Rattle.run_outcome.specs.declared.causes.PlanCause.{PlanCause}
+use Rattle.run_outcome.specs.declared.stop.Stop.{Stop}
+use Rattle.run_outcome.specs.Texts.{status_of}
+use Rattle.run_outcome.specs.Lone.{SayAlone}
+use Rattle.run_outcome.specs.Runs.{stream_for, RefusesFirstHeader, RefusesSearch, StopsWalk, FindsAlone}
 use Rattle.psr_part.specs.Part.{until_in, check_text_of, SaysCheckpoint, spectra_in, text_in_part, part_search, searching}
 use Rattle.psr_part.specs.Outcome.{IsSearched, IsCrowded, Outcome}
 

@@ -11,10 +11,10 @@ use Rattle.search_model.specs.Parts.{within_part}
 use Rattle.disk_feeder.specs.Filling.{HoldsAll}
 use Rattle.warm_restart.specs.declared.checkpoint.Checkpoint.{Checkpoint}
 use Rattle.warm_restart.specs.Warm.{text_of_part}
-use Rattle.run_stop.specs.declared.stop.Stop.{Stop}
-use Rattle.run_stop.specs.declared.stop.Stop.TheVariants.{TooMany, SinkFault}
-use Rattle.run_stop.specs.Ends.{IsSaid}
-use Rattle.lone_run.specs.Outcomes.{RunsAlone}
+use Rattle.run_outcome.specs.declared.stop.Stop.{Stop}
+use Rattle.run_outcome.specs.declared.stop.Stop.TheVariants.{TooMany, SinkFault}
+use Rattle.run_outcome.specs.Ends.{IsSaid}
+use Rattle.drive_lone.specs.Outcomes.{RunsAlone}
 use Rattle.psr_part.specs.declared.stop.CheckpointRefusal.TheVariants.{Beyond}
 use Rattle.psr_part.specs.declared.stop.PartStop.{PartStop}
 use Rattle.psr_part.specs.declared.stop.PartStop.TheVariants.{Run, Refused}

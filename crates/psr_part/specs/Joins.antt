@@ -10,8 +10,8 @@ use Rattle.disk_feeder.specs.Plan.{AreTold}
 use Rattle.warm_restart.specs.declared.checkpoint.Checkpoint.{Checkpoint}
 use Rattle.warm_restart.specs.Checkpoint.{CanBeSaid}
 use Rattle.warm_restart.specs.Joins.{lines_of_part, checkpoint_at}
-use Rattle.run_stop.specs.Lone.{SayAlone}
-use Rattle.run_stop.specs.Runs.{stream_for, first_observation}
+use Rattle.run_outcome.specs.Lone.{SayAlone}
+use Rattle.run_outcome.specs.Runs.{stream_for, first_observation}
 use Rattle.psr_part.specs.Part.{until_in, check_text_of, spectra_in, part_search}
 use Rattle.psr_part.specs.Causes.{PartSeen, IsOutcome}
 

@@ -9,14 +9,14 @@ use Rattle.ring_ends.specs.declared.finished.Finished.{Finished}
 use Rattle.search_words.specs.Settings.{SettingsSeen}
 use Rattle.stream_model.specs.Walk.{FileStream}
 use Rattle.disk_feeder.specs.Filling.{HoldsAll}
-use Rattle.run_stop.specs.declared.ran.Ran.{Ran}
+use Rattle.run_outcome.specs.declared.ran.Ran.{Ran}
 use Rattle.warm_restart.specs.declared.checkpoint.Checkpoint.{Checkpoint}
 use Rattle.warm_restart.specs.Checkpoint.{IsCheckpointText, IsNoCheckpointText}
 use Rattle.warm_restart.specs.Named.{most_read, new_word, ReadsFront}
-use Rattle.run_stop.specs.Runs.{FindsAlone}
-use Rattle.run_stop.specs.Outcomes.{TellsNotes}
-use Rattle.run_stop.specs.Outcomes as runs
-use Rattle.lone_run.specs.Outcomes.{RunsAlone}
+use Rattle.run_outcome.specs.Runs.{FindsAlone}
+use Rattle.run_outcome.specs.Outcomes.{TellsNotes}
+use Rattle.run_outcome.specs.Outcomes as runs
+use Rattle.drive_lone.specs.Outcomes.{RunsAlone}
 use Rattle.psr_part.specs.declared.stop.CheckpointRefusal.{CheckpointRefusal}
 use Rattle.psr_part.specs.declared.stop.CheckpointRefusal.TheVariants.{Form, Place, Beyond}
 use Rattle.psr_part.specs.Texts.{refusal_text, statuses}
@@ -112,6 +112,8 @@ pub record Outcome (words : List (List ℕ)) (inputs : InputsSeen) (is_calm : Ty
       (is_calm × HoldsAll inputs.told (check_names words)) ran.blocks ran.status
   -- 9 exactly where the part has more pulses than there may be
   pub too_many : ran.status ≡ 9 → ForPart words from inputs.told (IsCrowded words from)
+  -- there is no recorder
+  pub unrecorded : ran.recorded ≡ None
   pub noted : TellsPart words from inputs.told ran.blocks notes_before notes_after ran.status
 
 -- ---- what was read at want of memory and at a refusal, and what a fault of the inputs leaves

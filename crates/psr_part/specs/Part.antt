@@ -14,8 +14,8 @@ use Rattle.warm_restart.specs.Checkpoint.{IsCheckpointText}
 use Rattle.warm_restart.specs.Counts.{until_of}
 use Rattle.warm_restart.specs.Named.{named_text, new_word}
 use Rattle.warm_restart.specs.Warm.{text_of_part}
-use Rattle.run_stop.specs.Lone.{LoneSearch}
-use Rattle.run_stop.specs.Runs.{Task, Alone, ForFiles, first_observation}
+use Rattle.run_outcome.specs.Lone.{LoneSearch}
+use Rattle.run_outcome.specs.Runs.{Task, Alone, ForFiles, first_observation}
 
 -- ---- the words
 

@@ -4,8 +4,8 @@ use Rattle.std.specs.Prelude.{ℕ, List, [], ◌∷◌, ◌++◌, Option, Some, 
 use Rattle.std.specs.Fmt.{decimal}
 use Rattle.warm_restart.specs.declared.checkpoint.CheckpointFault.{CheckpointFault}
 use Rattle.warm_restart.specs.declared.checkpoint.CheckpointFault.TheVariants as fault
-use Rattle.run_stop.specs.declared.stop.Stop.TheVariants.{ReadFault}
-use Rattle.run_stop.specs.Texts.{status_of}
+use Rattle.run_outcome.specs.declared.stop.Stop.TheVariants.{ReadFault}
+use Rattle.run_outcome.specs.Texts.{status_of}
 use Rattle.psr_part.specs.declared.stop.CheckpointRefusal.{CheckpointRefusal}
 use Rattle.psr_part.specs.declared.stop.CheckpointRefusal.TheVariants.{Form, Place, Beyond}
 use Rattle.psr_part.specs.declared.stop.PartStop.{PartStop}

@@ -5,7 +5,7 @@ ghost use Rattle.psr_part.specs.Outcome.{Outcome, ReadsCheck, ReadsNoData, Leave
 
 use crate::top::run_part;
 use psr_base::{MemInputs, MemSink};
-use run_stop::Ran;
+use run_outcome::Ran;
 use std::alloc::Global;
 use std::sync::Wait;
 

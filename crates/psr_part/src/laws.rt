@@ -6,7 +6,7 @@ ghost use Rattle.psr_part.specs.Sample.{SampleIsFound};
 
 use psr_base::Inputs;
 // Laws: they do nothing when they run, and the proofs use what they ensure.
-use run_stop::{accepted_goes_on, accepted_is_not_refused};
+use run_outcome::{accepted_goes_on, accepted_is_not_refused};
 use search_model::{candidates_rise, parts_join};
 use warm_restart::{lines_are_read_back, part_texts_join, texts_say_one};
 

@@ -2,7 +2,7 @@
 ghost use Rattle.std.specs.Prelude.{◌≡◌, ◌≤◌, ◌^◌};
 ghost use Rattle.warm_restart.specs.Warm.{part_scope as part_scope_of};
 
-use lone_run::{ScopeFault, Scoping};
+use drive_lone::{ScopeFault, Scoping};
 use obs_plan::Observation;
 use psr_base::Memory;
 use search_engine::Scope;

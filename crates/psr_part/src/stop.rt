@@ -2,7 +2,7 @@
 ghost use Rattle.std.specs.Prelude.{◌≡◌, ◌≤◌, ◌++◌, codes, length};
 ghost use Rattle.std.specs.Fmt.{decimal};
 
-use run_stop::Stop;
+use run_outcome::Stop;
 use text_line::Line;
 use warm_restart::CheckpointFault;
 

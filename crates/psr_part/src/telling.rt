@@ -3,7 +3,7 @@ ghost use Rattle.std.specs.Prelude.{◌≡◌, ℕ, List, Option, Some};
 ghost use Rattle.psr_base.specs.Told.{Told};
 ghost use Rattle.ring_ends.specs.declared.finished.Finished.{Finished};
 ghost use Rattle.warm_restart.specs.declared.checkpoint.Checkpoint.{Checkpoint};
-ghost use Rattle.run_stop.specs.declared.stop.Stop.TheVariants.{Memory, ReadFault};
+ghost use Rattle.run_outcome.specs.declared.stop.Stop.TheVariants.{Memory, ReadFault};
 ghost use Rattle.psr_part.specs.declared.stop.CheckpointRefusal.{CheckpointRefusal};
 ghost use Rattle.psr_part.specs.declared.stop.PartStop.TheVariants.{Run, Refused};
 ghost use Rattle.psr_part.specs.Texts.{end_status};
@@ -12,7 +12,7 @@ ghost use Rattle.psr_part.specs.Ends.{IsPartSaid};
 
 use crate::stop::PartStop;
 use psr_base::Sink;
-use run_stop::{tell, tell_line};
+use run_outcome::{tell, tell_line};
 
 /// Writes why the search of a part stopped as a line to the notes, and answers the exit status. If it didn't stop, the
 /// status is 0 and the notes take nothing. A fault of the notes changes nothing.

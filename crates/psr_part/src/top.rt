@@ -1,6 +1,6 @@
 // The top call.
 ghost use Rattle.std.specs.Prelude.{◌≡◌, Some, None, map, string_bytes};
-ghost use Rattle.run_stop.specs.declared.stop.Stop.TheVariants.{Memory, ReadFault};
+ghost use Rattle.run_outcome.specs.declared.stop.Stop.TheVariants.{Memory, ReadFault};
 ghost use Rattle.psr_part.specs.declared.stop.CheckpointRefusal.{CheckpointRefusal};
 ghost use Rattle.psr_part.specs.declared.stop.PartStop.TheVariants.{Run, Refused};
 ghost use Rattle.psr_part.specs.Outcome.{Outcome, ReadsCheck, ReadsNoData, LeavesAtFault};
@@ -11,18 +11,18 @@ use crate::stop::PartStop;
 use crate::telling::tell_part;
 use crate::words::{PartWords, check_of, part_words};
 use crate::writing::{Ended, finish};
-use lone_run::{LoneStop, drive_alone};
+use drive_lone::{LoneStop, drive_alone};
 use psr_base::{Inputs, Sink};
-use run_stop::{Ran, Stop};
+use run_outcome::{Ran, Stop};
 use std::alloc::Global;
 use std::convert::Infallible;
 use std::sync::Wait;
 use warm_restart::read_checkpoint;
 // Laws: they do nothing when they run, and the proofs use what they ensure.
-use lone_run::{
+use drive_lone::{
     alone_after_whole, alone_at_feed_stop, alone_at_own_stop, alone_at_words, alone_before_session,
 };
-use run_stop::words_say_once;
+use run_outcome::words_say_once;
 
 /// Searches a part of the observation of the files that the arguments name, from a checkpoint on, and writes its text
 /// to `out`. `words` are the program's name and its arguments: UNTIL, the spectrum that the part stops before; CHECK,
@@ -54,7 +54,11 @@ pub fn run_part<R: Wait, I: Inputs, K: Sink, E: Sink>(
 {
     let Ended { stop, blocks } = search(rt, alloc, words, inputs, out);
     let status = tell_part(stop, notes);
-    Ran { status, blocks }
+    Ran {
+        status,
+        blocks,
+        recorded: None,
+    }
 }
 
 // The stop of a search that was driven: none of its own, since no observation is refused.

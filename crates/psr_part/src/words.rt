@@ -3,10 +3,10 @@ ghost use Rattle.std.specs.Prelude.{◌≡◌, ◌<◌, ◌≤◌, true, false, 
 ghost use Rattle.search_words.specs.Settings.{AllInRange, settings_seen};
 ghost use Rattle.warm_restart.specs.declared.checkpoint.Checkpoint.{Checkpoint};
 ghost use Rattle.warm_restart.specs.Counts.{greatest_count, until_of};
-ghost use Rattle.run_stop.specs.Lone.{SayAlone, ExplainsAlone};
+ghost use Rattle.run_outcome.specs.Lone.{SayAlone, ExplainsAlone};
 ghost use Rattle.psr_part.specs.Part.{until_word, check_word, has_form, part_search};
 
-use lone_run::settings_after;
+use drive_lone::settings_after;
 use search_model::Search;
 use search_words::{Settings, WordFault};
 use std::alloc::Global;

@@ -2,17 +2,17 @@
 ghost use Rattle.std.specs.Prelude.{◌≡◌, ◌≢◌, ℕ, ◌<◌, List, Some, IfSome};
 ghost use Rattle.disk_feeder.specs.declared.answers.FeedEnd.TheVariants.{Whole, ReadFault};
 ghost use Rattle.warm_restart.specs.Warm.{HasFound, SearchedPart};
-ghost use Rattle.run_stop.specs.Conversions.{stop_of_feed};
+ghost use Rattle.run_outcome.specs.Conversions.{stop_of_feed};
 ghost use Rattle.psr_part.specs.declared.stop.PartStop.TheVariants.{Run};
 ghost use Rattle.psr_part.specs.Ends.{EndsText, EndsFed};
 
 use crate::stop::{CheckpointRefusal, PartStop};
 use disk_feeder::FeedEnd;
-use lone_run::LoneFound;
+use drive_lone::LoneFound;
 use obs_plan::Observation;
 use psr_base::Sink;
 use ring_ends::Finished;
-use run_stop::Stop;
+use run_outcome::Stop;
 use search_model::Search;
 use warm_restart::{Checkpoint, Warm};
 

@@ -3,7 +3,7 @@
 
 use psr_base::{RealInputs, RealSink, TakenStreams};
 use psr_part::run_part;
-use run_stop::words_or_status;
+use run_outcome::words_or_status;
 use std::env;
 use std::process::ExitCode;
 

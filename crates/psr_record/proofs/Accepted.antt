@@ -1,7 +1,7 @@
 -- What is accepted is recorded: at no other status nothing stands against it.
 use Rattle.std.proofs.Common.{◌≡◌, ℕ, zero, suc, ◌⊎◌, [], ◌∷◌, inl, inr, sym, Contains, lit<, arith}
-use Rattle.run_stop.specs.Runs.{RecordingAlone}
-use Rattle.run_stop.specs.Ends.{AcceptedGoesOn}
+use Rattle.run_outcome.specs.Runs.{RecordingAlone}
+use Rattle.run_outcome.specs.Ends.{AcceptedGoesOn}
 use Rattle.psr_record.specs.Outcome.{AcceptedIsRecorded}
 
 -- a status that is none of these
@@ -24,4 +24,4 @@ accepted_is_recorded is_calm goes_on words inputs files_before files_after notes
     left ran.status o.known
     (goes_on RecordingAlone words inputs ran.blocks ran.status o.judged o.read o.stopped s files says are
     recordable.begins recordable.whole calm)
-    (λ e. files_quiet (o.recorded.failed e))
+    (λ e. files_quiet (o.recorded.rose (o.recorded.failed e)))

@@ -14,13 +14,13 @@ use Rattle.stream_model.specs.Walk.{walk_stop}
 use Rattle.disk_feeder.specs.declared.answers.FeedEnd.{FeedEnd}
 use Rattle.dada_recorder.specs.declared.answers.RecordEnd.{RecordEnd}
 use Rattle.dada_recorder.specs.declared.answers.RecordEnd.TheVariants as recorder
-use Rattle.run_stop.specs.declared.stop.Stop.{Stop}
-use Rattle.run_stop.specs.declared.stop.Stop.TheVariants.{FileFault}
-use Rattle.run_stop.specs.Texts.{status_of}
-use Rattle.run_stop.specs.Conversions.{stop_of_feed, stop_of_recorder}
-use Rattle.run_stop.specs.Runs.{RecordingAlone, CanBegin}
-use Rattle.run_stop.specs.Outcomes.{AllCleared, LeavesFiles, TellsNotes}
-use Rattle.run_stop.specs.Ends.{EndsRun, EndsShort, short_statuses, EndAtStop, EndAfterWhole, RunsThrough, IsLate, end_status}
+use Rattle.run_outcome.specs.declared.stop.Stop.{Stop}
+use Rattle.run_outcome.specs.declared.stop.Stop.TheVariants.{FileFault}
+use Rattle.run_outcome.specs.Texts.{status_of}
+use Rattle.run_outcome.specs.Conversions.{stop_of_feed, stop_of_recorder}
+use Rattle.run_outcome.specs.Runs.{RecordingAlone, CanBegin}
+use Rattle.run_outcome.specs.Outcomes.{AllCleared, LeavesFiles, TellsNotes}
+use Rattle.run_outcome.specs.Ends.{EndsRun, EndsShort, short_statuses, EndAtStop, EndAfterWhole, RunsThrough, IsLate, end_status}
 use Rattle.psr_record.specs.Outcome.{ForRecord, RecordsData, ClearsBlocks, Outcome}
 use Rattle.psr_record.specs.Ends.{stop_of_session, Ends}
 
@@ -37,10 +37,11 @@ records words s says = ap (λ (t : RunSeen). t.recording) says.values
 module _ (words : List (List ℕ)) (inputs : InputsSeen) (is_calm : Type 0) (files_before files_after : FilesSeen) where
   -- ---- before all data were sealed
 
-  pub at_short : (blocks : Option Finished) (stop : Stop) →
-      EndsShort RecordingAlone words inputs is_calm blocks files_before files_after stop →
-      Ends words inputs is_calm files_before files_after (Some stop) blocks
-  at_short blocks stop e =
+  pub at_short : (blocks : Option Finished) (recorded : Option RecordEnd) (stop : Stop) →
+      EndsShort RecordingAlone words inputs is_calm blocks recorded files_before files_after stop →
+      ClearsBlocks blocks recorded →
+      Ends words inputs is_calm files_before files_after (Some stop) blocks recorded
+  at_short blocks recorded stop e cleared =
       let least = e.least in
       let most = e.most in
       record {
@@ -48,18 +49,26 @@ module _ (words : List (List ℕ)) (inputs : InputsSeen) (is_calm : Type 0) (fil
             (Contains-append_left short_statuses (11 ∷ []) (status_of stop) e.known);
         made = record { all = λ is. absurd (omega (arith, is, least)); front = λ is. absurd (omega (arith, is, most)) };
         run = e.run;
-        cleared = λ is b bs. absurd (omega (arith, is, least));
+        cleared = cleared;
         said = e.said;
       }
+
+  -- with no data ring
+  pub at_once : (stop : Stop) → EndsShort RecordingAlone words inputs is_calm None None files_before files_after stop →
+      Ends words inputs is_calm files_before files_after (Some stop) None None
+  at_once stop e = at_short None None stop e (λ fine b is. absurd cc)
 
   -- ---- with all data
 
   module _ (s0 : RunSeen) (blocks : Finished) (end : FeedEnd) (recorded : Option RecordEnd)
       (through : RunsThrough RecordingAlone words s0 inputs is_calm blocks end recorded files_before files_after)
       (cleared : recorded ≢ Some recorder.FileFault → AllCleared blocks 0 1) where
+    clears : ClearsBlocks (Some blocks) recorded
+    clears fine b is = subst (λ (x : Finished). AllCleared x 0 1) (one_list blocks b is) (cleared fine)
+
     module _ (law : EndAfterWhole is_calm) (whole : stop_of_feed end ≡ None) where
       late : (n : ℕ) → IsLate recorded n →
-          EndsRun RecordingAlone words inputs is_calm (Some blocks) files_before files_after n
+          EndsRun RecordingAlone words inputs is_calm (Some blocks) recorded files_before files_after n
           × ForRecord words inputs.told (λ s w. CanBegin RecordingAlone s w × (walk_stop w ≡ walk.Whole))
       late n at = law RecordingAlone words s0 inputs blocks end recorded files_before files_after n through whole at
 
@@ -68,7 +77,7 @@ module _ (words : List (List ℕ)) (inputs : InputsSeen) (is_calm : Type 0) (fil
         all = λ e s files says are.
             let b = (late n at).1 s files says are in (
               record { begins = b.0; whole = b.1 },
-              (late n at).0.ends.recorded.all e s files says are (records words s says),
+              ((late n at).0.ends.recorded.all e s files says are (records words s says)).1,
             );
         front = λ e s files says are.
             let b = (late n at).1 s files says are in
@@ -76,7 +85,7 @@ module _ (words : List (List ℕ)) (inputs : InputsSeen) (is_calm : Type 0) (fil
       }
 
       done : recorded ≢ Some recorder.FileFault →
-          Ends words inputs is_calm files_before files_after None (Some blocks)
+          Ends words inputs is_calm files_before files_after None (Some blocks) recorded
       done none =
           let at : IsLate recorded 0 = record {
             known = (0, lit< tt, refl);
@@ -87,12 +96,12 @@ module _ (words : List (List ℕ)) (inputs : InputsSeen) (is_calm : Type 0) (fil
             known = (0, lit< tt, refl);
             made = data_at 0 at;
             run = (late 0 at).0;
-            cleared = λ zeroth b e. subst (λ (x : Finished). AllCleared x 0 1) (one_list blocks b e) (cleared none);
+            cleared = clears;
             said = tt;
           }
 
       broken_off : recorded ≡ Some recorder.FileFault →
-          Ends words inputs is_calm files_before files_after (Some FileFault) (Some blocks)
+          Ends words inputs is_calm files_before files_after (Some FileFault) (Some blocks) recorded
       broken_off failed =
           let at : IsLate recorded 11 = record {
             known = (3, lit< tt, refl);
@@ -103,12 +112,12 @@ module _ (words : List (List ℕ)) (inputs : InputsSeen) (is_calm : Type 0) (fil
             known = (8, lit< tt, refl);
             made = data_at 11 at;
             run = (late 11 at).0;
-            cleared = λ e. absurd (omega (arith, e));
+            cleared = clears;
             said = (tt, tt);
           }
 
       at_files : (answer : Option RecordEnd) → recorded ≡ answer →
-          Ends words inputs is_calm files_before files_after (stop_of_recorder answer) (Some blocks)
+          Ends words inputs is_calm files_before files_after (stop_of_recorder answer) (Some blocks) recorded
       at_files None is = done (λ fault. absurd cc)
       at_files (Some recorder.FileFault) is = broken_off is
       at_files (Some (recorder.Whole n)) is = done (λ fault. absurd cc)
@@ -117,28 +126,30 @@ module _ (words : List (List ℕ)) (inputs : InputsSeen) (is_calm : Type 0) (fil
       at_files (Some (recorder.TooLong limit)) is = done (λ fault. absurd cc)
 
     by_feed : EndAtStop is_calm → EndAfterWhole is_calm → (at : Option Stop) → stop_of_feed end ≡ at →
-        Ends words inputs is_calm files_before files_after (stop_of_session at recorded) (Some blocks)
-    by_feed stops wholes (Some stop) is = at_short (Some blocks) stop
-        (stops RecordingAlone words s0 inputs blocks end recorded files_before files_after stop through is)
+        Ends words inputs is_calm files_before files_after (stop_of_session at recorded) (Some blocks) recorded
+    by_feed stops wholes (Some stop) is = at_short (Some blocks) recorded stop
+        (stops RecordingAlone words s0 inputs blocks end recorded files_before files_after stop through is) clears
     by_feed stops wholes None is = at_files wholes is recorded refl
 
     pub after_session : EndAtStop is_calm → EndAfterWhole is_calm → (stop : Option Stop) →
         stop ≡ stop_of_session (stop_of_feed end) recorded →
-        Ends words inputs is_calm files_before files_after stop (Some blocks)
+        Ends words inputs is_calm files_before files_after stop (Some blocks) recorded
     after_session stops wholes stop is =
-        subst (λ (x : Option Stop). Ends words inputs is_calm files_before files_after x (Some blocks)) (sym is)
-        (by_feed stops wholes (stop_of_feed end) refl)
+        subst (λ (x : Option Stop). Ends words inputs is_calm files_before files_after x (Some blocks) recorded)
+        (sym is) (by_feed stops wholes (stop_of_feed end) refl)
 
 -- ---- with the notes
 
 pub outcome : (words : List (List ℕ)) (inputs : InputsSeen) (is_calm : Type 0) (files_before files_after : FilesSeen)
-    (notes_before notes_after : SinkSeen) (stop : Option Stop) (blocks : Option Finished) (status : ℕ) →
-    Ends words inputs is_calm files_before files_after stop blocks → status ≡ end_status stop →
+    (notes_before notes_after : SinkSeen) (stop : Option Stop) (blocks : Option Finished) (recorded : Option RecordEnd)
+    (status : ℕ) →
+    Ends words inputs is_calm files_before files_after stop blocks recorded → status ≡ end_status stop →
     TellsNotes RecordingAlone words inputs.told notes_before notes_after status →
     Outcome words inputs is_calm files_before files_after notes_before notes_after
-    (record { status = status; blocks = blocks })
-outcome words inputs is_calm files_before files_after notes_before notes_after stop blocks status e is noted =
-    let Run : ℕ → Type 0 = λ n. EndsRun RecordingAlone words inputs is_calm blocks files_before files_after n in
+    (record { status = status; blocks = blocks; recorded = recorded })
+outcome words inputs is_calm files_before files_after notes_before notes_after stop blocks recorded status e is noted =
+    let Run : ℕ → Type 0 = λ n. EndsRun RecordingAlone words inputs is_calm blocks recorded files_before files_after n
+    in
     let run = subst Run (sym is) e.run in
     record {
       known = subst (λ n. Contains statuses n) (sym is) e.known;
@@ -147,7 +158,7 @@ outcome words inputs is_calm files_before files_after notes_before notes_after s
       read = run.read;
       stopped = run.ends.stopped;
       sealed = run.ends.sealed;
-      cleared = subst (λ n. ClearsBlocks blocks n) (sym is) e.cleared;
+      cleared = e.cleared;
       recorded = run.ends.recorded;
       noted = noted;
     }
@@ -156,12 +167,13 @@ outcome words inputs is_calm files_before files_after notes_before notes_after s
 
 module _ (words : List (List ℕ)) {F : Type 0} (files_open : F → Type 0) (seen : F → FilesSeen) (before after : F) where
   -- they stand
-  pub stand : (blocks : Option Finished) (status : ℕ) → after ≡ before →
-      LeavesFiles RecordingAlone words files_open seen before after blocks status
-  stand blocks status same = record {
+  pub stand : (blocks : Option Finished) (recorded : Option RecordEnd) (status : ℕ) → after ≡ before →
+      LeavesFiles RecordingAlone words files_open seen before after blocks recorded status
+  stand blocks recorded status same = record {
     before_session = λ none. same;
     unrecorded = λ s says not. same;
     closed = λ quiet shut. subst (λ (files : F). ¬ files_open files) (sym same) shut;
+    shut = λ fine shut. subst (λ (files : F). ¬ files_open files) (sym same) shut;
   }
 
   -- no call on them failed where nothing stopped the session
@@ -176,11 +188,12 @@ module _ (words : List (List ℕ)) {F : Type 0} (files_open : F → Type 0) (see
       stop ≡ stop_of_session fed recorded → (status ≡ 0 → stop ≡ None) →
       (recorded ≡ Some recorder.FileFault → Rose (seen before).faults (seen after).faults) →
       (recorded ≢ Some recorder.FileFault → ¬ files_open before → ¬ files_open after) →
-      LeavesFiles RecordingAlone words files_open seen before after (Some blocks) status
+      LeavesFiles RecordingAlone words files_open seen before after (Some blocks) recorded status
   leaves_closed blocks recorded fed stop status is whole rose closed = record {
     before_session = λ none. absurd cc;
     unrecorded = λ s says not. absurd (true≢false (sym (records words s says) ∙ not));
     closed = λ quiet shut. closed (fine quiet) shut;
+    shut = closed;
   }
     where
       fine : (status ≡ 0) ⊎ ¬ Rose (seen before).faults (seen after).faults → recorded ≢ Some recorder.FileFault

@@ -5,10 +5,10 @@ use Rattle.psr_base.specs.Told.{InputsSeen}
 use Rattle.psr_base.specs.Made.{FilesSeen}
 use Rattle.ring_ends.specs.declared.finished.Finished.{Finished}
 use Rattle.dada_recorder.specs.declared.answers.RecordEnd.{RecordEnd}
-use Rattle.run_stop.specs.declared.stop.Stop.{Stop}
-use Rattle.run_stop.specs.Conversions.{stop_of_recorder}
-use Rattle.run_stop.specs.Runs.{RecordingAlone}
-use Rattle.run_stop.specs.Ends.{EndsRun, end_status, IsSaid}
+use Rattle.run_outcome.specs.declared.stop.Stop.{Stop}
+use Rattle.run_outcome.specs.Conversions.{stop_of_recorder}
+use Rattle.run_outcome.specs.Runs.{RecordingAlone}
+use Rattle.run_outcome.specs.Ends.{EndsRun, end_status, IsSaid}
 use Rattle.psr_record.specs.Outcome.{RecordsData, ClearsBlocks}
 
 -- the stop of a session: that of its feeder first
@@ -18,11 +18,11 @@ stop_of_session None recorded = stop_of_recorder recorded
 
 -- all that the outcome says but for the notes
 pub record Ends (words : List (List ℕ)) (inputs : InputsSeen) (is_calm : Type 0)
-    (files_before files_after : FilesSeen) (stop : Option Stop) (blocks : Option Finished) :
-    Type 0 where
+    (files_before files_after : FilesSeen) (stop : Option Stop) (blocks : Option Finished)
+    (recorded : Option RecordEnd) : Type 0 where
   pub known : Contains (0 ∷ 2 ∷ 3 ∷ 4 ∷ 5 ∷ 6 ∷ 7 ∷ 8 ∷ 11 ∷ []) (end_status stop)
   pub made : RecordsData words inputs.told files_before files_after (end_status stop)
-  pub run : EndsRun RecordingAlone words inputs is_calm blocks files_before files_after
+  pub run : EndsRun RecordingAlone words inputs is_calm blocks recorded files_before files_after
       (end_status stop)
-  pub cleared : ClearsBlocks blocks (end_status stop)
+  pub cleared : ClearsBlocks blocks recorded
   pub said : IsSaid RecordingAlone words inputs.told stop

@@ -1,6 +1,6 @@
 -- What the exit status of a recording says.
 -- Source: this project's choice.
-use Rattle.std.specs.Prelude.{◌≡◌, ◌⊎◌, ℕ, List, [], ◌∷◌, Option, Some, Contains}
+use Rattle.std.specs.Prelude.{◌≡◌, ◌≢◌, ◌⊎◌, ℕ, List, [], ◌∷◌, Option, Some, Contains}
 use Rattle.psr_base.specs.Count.{Rose}
 use Rattle.psr_base.specs.Told.{Told, InputsSeen}
 use Rattle.psr_base.specs.Made.{FilesSeen}
@@ -10,9 +10,11 @@ use Rattle.search_words.specs.Settings.{RunSeen, SayRecord}
 use Rattle.stream_model.specs.Walk as walk
 use Rattle.stream_model.specs.Walk.{FileStream, walk_stop}
 use Rattle.disk_feeder.specs.Plan.{AreTold}
-use Rattle.run_stop.specs.declared.ran.Ran.{Ran}
-use Rattle.run_stop.specs.Runs.{RecordingAlone, stream_for, ForFiles, CanBegin}
-use Rattle.run_stop.specs.Outcomes.{JudgesWords, ReadsInputs, StopsAtFiles, SealsStream, AllCleared, RecordsFiles, TellsNotes, MadeAll, MadeFront, files_of_data}
+use Rattle.dada_recorder.specs.declared.answers.RecordEnd.{RecordEnd}
+use Rattle.dada_recorder.specs.declared.answers.RecordEnd.TheVariants.{FileFault}
+use Rattle.run_outcome.specs.declared.ran.Ran.{Ran}
+use Rattle.run_outcome.specs.Runs.{RecordingAlone, stream_for, ForFiles, CanBegin}
+use Rattle.run_outcome.specs.Outcomes.{JudgesWords, ReadsInputs, StopsAtFiles, SealsStream, AllCleared, RecordsFiles, TellsNotes, MadeAll, MadeFront, files_of_data}
 
 -- P holds of the settings that the words of a recording say and of the files that they name, where all of them are
 -- told
@@ -32,9 +34,10 @@ pub record RecordsData
   pub front : status ≡ 11 → ForRecord words told (λ s w.
       IsRecordable s w × MadeFront (files_of_data w s.file_size) before after)
 
--- at 0 the recorder cleared all that was sealed
-abbrev pub ClearsBlocks : Option Finished → ℕ → Type 0
-ClearsBlocks blocks status = status ≡ 0 → (b : Finished) → blocks ≡ Some b → AllCleared b 0 1
+-- the recorder cleared all that was sealed, unless its end is a fault
+abbrev pub ClearsBlocks : Option Finished → Option RecordEnd → Type 0
+ClearsBlocks blocks recorded = recorded ≢ Some FileFault → (b : Finished) → blocks ≡ Some b →
+    AllCleared b 0 1
 
 -- The outcome of a recording for these words over these inputs, which may be calm: how it ended, by its status, and
 -- what the outside objects and the data ring took. Where more than one cause is there, the first of these counts:
@@ -50,9 +53,9 @@ pub record Outcome (words : List (List ℕ)) (inputs : InputsSeen) (is_calm : Ty
   pub read : ReadsInputs RecordingAlone words inputs is_calm ran.status
   pub stopped : StopsAtFiles RecordingAlone words inputs.told ran.blocks ran.status
   pub sealed : SealsStream RecordingAlone words inputs.told ran.blocks ran.status
-  pub cleared : ClearsBlocks ran.blocks ran.status
-  pub recorded : RecordsFiles RecordingAlone words inputs.told ran.blocks files_before files_after
-      ran.status
+  pub cleared : ClearsBlocks ran.blocks ran.recorded
+  pub recorded : RecordsFiles RecordingAlone words inputs.told ran.blocks ran.recorded files_before
+      files_after ran.status
   pub noted : TellsNotes RecordingAlone words inputs.told notes_before notes_after ran.status
 
 -- Words, headers, recordings and data that are accepted are recorded, over inputs that are calm or count no fault, and

@@ -4,7 +4,7 @@ ghost use Rattle.psr_record.specs.Outcome.{AcceptedIsRecorded};
 
 use psr_base::Inputs;
 // A law: it does nothing when it runs, and the proofs use what it ensures.
-use run_stop::accepted_goes_on;
+use run_outcome::accepted_goes_on;
 
 /// If arguments, headers, recordings and data are accepted, the data are recorded, or there is no memory, provided that
 /// neither the inputs nor the files that are made count a fault.

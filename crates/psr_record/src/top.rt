@@ -1,27 +1,28 @@
 // The top call.
 ghost use Rattle.std.specs.Prelude.{◌≡◌, ℕ, Some, None, map, string_bytes};
 ghost use Rattle.disk_feeder.specs.declared.answers.FeedEnd.TheVariants.{ReadFault};
-ghost use Rattle.run_stop.specs.Conversions.{stop_of_feed};
-ghost use Rattle.run_stop.specs.Outcomes.{ReadsNoData, LeavesAtFault, LeavesFiles};
-ghost use Rattle.run_stop.specs.Runs.{RecordingAlone};
+ghost use Rattle.run_outcome.specs.Conversions.{stop_of_feed};
+ghost use Rattle.run_outcome.specs.Outcomes.{ReadsNoData, LeavesAtFault, LeavesFiles};
+ghost use Rattle.run_outcome.specs.Runs.{RecordingAlone};
 ghost use Rattle.psr_record.specs.Outcome.{Outcome};
 ghost use Rattle.psr_record.specs.Ends.{Ends, stop_of_session};
 
+use drive_session::{Found, ProgramEnd, drive};
 use psr_base::{Files, Inputs, Sink};
-use run_stop::{Purpose, Ran, Stop, tell};
+use run_outcome::{Purpose, Ran, Stop, tell};
 use search_session::Gate;
 use search_words::RunSettings;
 use std::alloc::Global;
 use std::sync::Wait;
 use std::thread::Threads;
 use std::time::Clock;
-use whole_run::{Found, ProgramEnd, drive};
 // Laws: they do nothing when they run, and the proofs use what they ensure.
-use run_stop::{end_after_whole, end_at_stop, end_at_words, end_before_session};
+use run_outcome::{end_after_whole, end_at_stop, end_at_words, end_before_session};
 
 /// Records the data of the files that the arguments name in new files. `words` are the program's name and its
 /// arguments. `gate` is called at each turn. Answers the exit status, and what went through the data ring, if there was
-/// one; if the status isn't 0, a line to `notes` says why. A fault of `notes` changes nothing. It may not end.
+/// one; if the status isn't 0, a line to `notes` says why. `recorded` of the answer says how the recorder ended, also
+/// if the status names another cause. A fault of `notes` changes nothing. It may not end.
 pub fn run_record<
     I: Inputs + Send,
     F: Files + Send,
@@ -51,11 +52,19 @@ pub fn run_record<
     ensures broken { result.status ≡ 6 → LeavesAtFault RecordingAlone (map string_bytes words.now)
         (I.is_calm inputs.old) (I.told inputs.old) (I.told inputs.new) result.blocks }
     ensures left { LeavesFiles RecordingAlone (map string_bytes words.now) F.is_open F.seen
-        files.old files.new result.blocks result.status }
+        files.old files.new result.blocks result.recorded result.status }
 {
-    let ProgramEnd { stop, blocks } = record_files(rt, alloc, words, inputs, files, gate);
+    let ProgramEnd {
+        stop,
+        blocks,
+        recorded,
+    } = record_files(rt, alloc, words, inputs, files, gate);
     let status = tell(stop, notes);
-    Ran { status, blocks }
+    Ran {
+        status,
+        blocks,
+        recorded,
+    }
 }
 
 // What stopped a session.
@@ -83,7 +92,8 @@ fn record_files<
           faults_before = I.faults inputs.old;
           faults_after = I.faults inputs.new;
         })
-        (I.is_calm inputs.old) (F.seen files.old) (F.seen files.new) result.stop result.blocks }
+        (I.is_calm inputs.old) (F.seen files.old) (F.seen files.new) result.stop result.blocks
+        result.recorded }
     ensures early { result.stop ≡ Some Stop.Memory
         → ReadsNoData RecordingAlone (map string_bytes words.now) (I.told inputs.old)
         (I.told inputs.new) }
@@ -92,7 +102,7 @@ fn record_files<
         (I.told inputs.old) (I.told inputs.new) result.blocks }
     ensures left { (status : ℕ) → (status ≡ 0 → result.stop ≡ None)
         → LeavesFiles RecordingAlone (map string_bytes words.now) F.is_open F.seen files.old
-        files.new result.blocks status }
+        files.new result.blocks result.recorded status }
 {
     end_at_words::<I>();
     end_before_session::<I>();
@@ -104,6 +114,7 @@ fn record_files<
             return ProgramEnd {
                 stop: Some(Stop::of_words(fault)),
                 blocks: None,
+                recorded: None,
             };
         }
     };
@@ -113,11 +124,13 @@ fn record_files<
             ProgramEnd {
                 stop,
                 blocks: Some(found.blocks),
+                recorded: found.recorded,
             }
         }
         Err(stop) => ProgramEnd {
             stop: Some(stop),
             blocks: None,
+            recorded: None,
         },
     }
 }

@@ -3,7 +3,7 @@
 
 use psr_base::{RealFiles, RealInputs, RealSink, TakenStreams};
 use psr_record::run_record;
-use run_stop::{Ran, words_or_status};
+use run_outcome::words_or_status;
 use search_session::NoGate;
 use std::env;
 use std::process::ExitCode;
@@ -17,7 +17,7 @@ fn main(rt: HostRuntime) -> ExitCode {
     };
     let mut inputs = RealInputs::new(&rt);
     let mut files = RealFiles::new(&rt);
-    let Ran { status, blocks: _ } = run_record(
+    let ran = run_record(
         &rt,
         rt.alloc(),
         words.as_slice(),
@@ -26,5 +26,5 @@ fn main(rt: HostRuntime) -> ExitCode {
         &mut notes,
         &NoGate,
     );
-    ExitCode::from(status)
+    ExitCode::from(ran.status)
 }

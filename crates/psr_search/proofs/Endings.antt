@@ -17,13 +17,13 @@ use Rattle.disk_feeder.specs.declared.answers.FeedEnd.TheVariants as feed
 use Rattle.disk_feeder.specs.Plan.{AreTold}
 use Rattle.dada_recorder.specs.declared.answers.RecordEnd.{RecordEnd}
 use Rattle.dada_recorder.specs.declared.answers.RecordEnd.TheVariants as recorder
-use Rattle.run_stop.specs.declared.stop.Stop.{Stop}
-use Rattle.run_stop.specs.declared.stop.Stop.TheVariants.{Words, Value, Header, Plan, Recording, Memory, ReadFault, Gap, TooLong, TooMany, SinkFault, FileFault}
-use Rattle.run_stop.specs.Texts.{status_of}
-use Rattle.run_stop.specs.Conversions.{stop_of_feed}
-use Rattle.run_stop.specs.Runs.{Searching, stream_for, observed_transfers, CanBegin, HasCandidates}
-use Rattle.run_stop.specs.Outcomes.{AllCleared, LeavesFiles, TellsNotes}
-use Rattle.run_stop.specs.Ends.{EndsRun, EndsShort, short_statuses, EndAtStop, EndAfterWhole, RunsThrough, IsLate, WordsSayOnce, end_status}
+use Rattle.run_outcome.specs.declared.stop.Stop.{Stop}
+use Rattle.run_outcome.specs.declared.stop.Stop.TheVariants.{Words, Value, Header, Plan, Recording, Memory, ReadFault, Gap, TooLong, TooMany, SinkFault, FileFault}
+use Rattle.run_outcome.specs.Texts.{status_of}
+use Rattle.run_outcome.specs.Conversions.{stop_of_feed}
+use Rattle.run_outcome.specs.Runs.{Searching, stream_for, observed_transfers, CanBegin, HasCandidates}
+use Rattle.run_outcome.specs.Outcomes.{AllCleared, LeavesFiles, TellsNotes}
+use Rattle.run_outcome.specs.Ends.{EndsRun, EndsShort, short_statuses, EndAtStop, EndAfterWhole, RunsThrough, IsLate, WordsSayOnce, end_status}
 use Rattle.psr_search.specs.Outcome.{ForSearch, HasText, WritesText, ClearsBlocks, Outcome}
 use Rattle.psr_search.specs.Ends.{Ends, EndsSearch, EndsFed}
 
@@ -58,11 +58,11 @@ module _ (words : List (List ℕ)) where
 module _ (words : List (List ℕ)) (inputs : InputsSeen) (is_calm : Type 0) (files_before files_after : FilesSeen) where
   -- ---- before all data were sealed
 
-  pub at_short : (blocks : Option Finished) (stop : Stop) (before after : SinkSeen) →
-      EndsShort Searching words inputs is_calm blocks files_before files_after stop →
-      ClearsBlocks words blocks (status_of stop) → after ≡ before →
-      Ends words inputs is_calm files_before files_after before after (Some stop) blocks
-  at_short blocks stop before after e cleared same =
+  pub at_short : (blocks : Option Finished) (recorded : Option RecordEnd) (stop : Stop) (before after : SinkSeen) →
+      EndsShort Searching words inputs is_calm blocks recorded files_before files_after stop →
+      ClearsBlocks words blocks recorded → after ≡ before →
+      Ends words inputs is_calm files_before files_after before after (Some stop) blocks recorded
+  at_short blocks recorded stop before after e cleared same =
       let least = e.least in
       let most = e.most in
       record {
@@ -78,10 +78,10 @@ module _ (words : List (List ℕ)) (inputs : InputsSeen) (is_calm : Type 0) (fil
 
   -- with no data ring
   pub at_once : (stop : Stop) (out : SinkSeen) →
-      EndsShort Searching words inputs is_calm None files_before files_after stop →
-      Ends words inputs is_calm files_before files_after out out (Some stop) None
-  at_once stop out e = at_short None stop out out e
-      (record { shards = λ b is. absurd cc; recorder = λ zeroth b is. absurd cc }) refl
+      EndsShort Searching words inputs is_calm None None files_before files_after stop →
+      Ends words inputs is_calm files_before files_after out out (Some stop) None None
+  at_once stop out e = at_short None None stop out out e
+      (record { shards = λ b is. absurd cc; recorder = λ fine b is. absurd cc }) refl
 
   -- ---- after the session
 
@@ -90,16 +90,16 @@ module _ (words : List (List ℕ)) (inputs : InputsSeen) (is_calm : Type 0) (fil
       (shards : AllCleared blocks 0 s0.search.shards)
       (recorder_cleared : s0.recording ≡ true → recorded ≢ Some recorder.FileFault →
       AllCleared blocks s0.search.shards 1) where
-    clears : (n : ℕ) → (n ≡ 0 → recorded ≢ Some recorder.FileFault) → ClearsBlocks words (Some blocks) n
-    clears n none = record {
+    clears : ClearsBlocks words (Some blocks) recorded
+    clears = record {
       shards = λ b e s says. subst (λ (t : SettingsSeen). AllCleared b 0 t.search.shards)
           (once Searching words s0 s through.says says)
           (subst (λ (x : Finished). AllCleared x 0 s0.search.shards) (one_list blocks b e) shards);
-      recorder = λ zeroth b e s says.
+      recorder = λ fine b e s says.
           subst (λ (t : SettingsSeen). t.recording ≡ true → AllCleared b t.search.shards 1)
           (once Searching words s0 s through.says says)
           (λ on. subst (λ (x : Finished). AllCleared x s0.search.shards 1) (one_list blocks b e)
-          (recorder_cleared on (none zeroth)));
+          (recorder_cleared on fine));
     }
 
     -- ---- with all data
@@ -108,7 +108,7 @@ module _ (words : List (List ℕ)) (inputs : InputsSeen) (is_calm : Type 0) (fil
         (known : (files : List (List ℕ)) → AreTold inputs.told s0.names files →
         transfers ≡ observed_transfers (stream_for s0 files)) where
       late : (n : ℕ) → IsLate recorded n →
-          EndsRun Searching words inputs is_calm (Some blocks) files_before files_after n
+          EndsRun Searching words inputs is_calm (Some blocks) recorded files_before files_after n
           × ForSearch words inputs.told (λ s w. CanBegin Searching s w × (walk_stop w ≡ walk.Whole))
       late n at = law Searching words s0 inputs blocks end recorded files_before files_after n through whole at
 
@@ -135,7 +135,7 @@ module _ (words : List (List ℕ)) (inputs : InputsSeen) (is_calm : Type 0) (fil
       -- the whole text, or its front, or no text
       done : (before after : SinkSeen) → HasFew s0.search transfers →
           WroteAll (searched_text s0.search transfers) before after → recorded ≢ Some recorder.FileFault →
-          Ends words inputs is_calm files_before files_after before after None (Some blocks)
+          Ends words inputs is_calm files_before files_after before after None (Some blocks) recorded
       done before after few wrote none =
           let at : IsLate recorded 0 = record {
             known = (0, lit< tt, refl);
@@ -154,13 +154,13 @@ module _ (words : List (List ℕ)) (inputs : InputsSeen) (is_calm : Type 0) (fil
             };
             run = (late 0 at).0;
             too_many = λ e. absurd (omega (arith, e));
-            cleared = clears 0 (λ e. none);
+            cleared = clears;
             said = tt;
           }
 
       unrecorded : (before after : SinkSeen) → HasFew s0.search transfers →
           WroteAll (searched_text s0.search transfers) before after → recorded ≡ Some recorder.FileFault →
-          Ends words inputs is_calm files_before files_after before after (Some FileFault) (Some blocks)
+          Ends words inputs is_calm files_before files_after before after (Some FileFault) (Some blocks) recorded
       unrecorded before after few wrote failed =
           let at : IsLate recorded 11 = record {
             known = (3, lit< tt, refl);
@@ -179,13 +179,13 @@ module _ (words : List (List ℕ)) (inputs : InputsSeen) (is_calm : Type 0) (fil
             };
             run = (late 11 at).0;
             too_many = λ e. absurd (omega (arith, e));
-            cleared = clears 11 (λ e. absurd (omega (arith, e)));
+            cleared = clears;
             said = (tt, tt);
           }
 
       broken_off : (before after : SinkSeen) → HasFew s0.search transfers →
           WroteFront (searched_text s0.search transfers) before after →
-          Ends words inputs is_calm files_before files_after before after (Some SinkFault) (Some blocks)
+          Ends words inputs is_calm files_before files_after before after (Some SinkFault) (Some blocks) recorded
       broken_off before after few wrote =
           let at : IsLate recorded 10 = record {
             known = (2, lit< tt, refl);
@@ -204,13 +204,14 @@ module _ (words : List (List ℕ)) (inputs : InputsSeen) (is_calm : Type 0) (fil
             };
             run = (late 10 at).0;
             too_many = λ e. absurd (omega (arith, e));
-            cleared = clears 10 (λ e. absurd (omega (arith, e)));
+            cleared = clears;
             said = (tt, tt);
           }
 
       crowded : (before after : SinkSeen) (n limit : ℕ) → candidate_total s0.search transfers ≡ n →
           limit ≡ s0.search.max_candidates → limit < n → after ≡ before →
           Ends words inputs is_calm files_before files_after before after (Some (TooMany n limit)) (Some blocks)
+          recorded
       crowded before after n limit total most many same =
           let at : IsLate recorded 9 = record {
             known = (1, lit< tt, refl);
@@ -223,7 +224,7 @@ module _ (words : List (List ℕ)) (inputs : InputsSeen) (is_calm : Type 0) (fil
                 (λ e. omega (arith, e)) same;
             run = (late 9 at).0;
             too_many = λ e. candidates 9 at (λ s t. s.search.max_candidates < t) (omega (arith, total, most, many));
-            cleared = clears 9 (λ e. absurd (omega (arith, e)));
+            cleared = clears;
             said = (
               tt,
               candidates 9 at
@@ -233,7 +234,7 @@ module _ (words : List (List ℕ)) (inputs : InputsSeen) (is_calm : Type 0) (fil
 
       pub at_text : (before after : SinkSeen) (stop : Option Stop) →
           EndsSearch s0.search transfers recorded before after stop →
-          Ends words inputs is_calm files_before files_after before after stop (Some blocks)
+          Ends words inputs is_calm files_before files_after before after stop (Some blocks) recorded
       at_text before after None (few, wrote, none) = done before after few wrote none
       at_text before after (Some FileFault) (few, wrote, failed) = unrecorded before after few wrote failed
       at_text before after (Some SinkFault) (few, wrote) = broken_off before after few wrote
@@ -268,15 +269,14 @@ module _ (words : List (List ℕ)) (inputs : InputsSeen) (is_calm : Type 0) (fil
         IfSome (stop_of_feed end) (λ fed. (stop ≡ Some fed) × (after ≡ before)) →
         ((bytes : ℕ) → end ≡ feed.Whole bytes → IsFound before after stop) → (fed : Option Stop) →
         stop_of_feed end ≡ fed →
-        Ends words inputs is_calm files_before files_after before after stop (Some blocks)
+        Ends words inputs is_calm files_before files_after before after stop (Some blocks) recorded
     after_session stops wholes before after stop stopped found (Some fed) is =
         let e =
         stops Searching words s0 inputs blocks end recorded files_before files_after fed through is in
-        let least = e.least in
         let two = subst (λ (x : Option Stop). IfSome x (λ f. (stop ≡ Some f) × (after ≡ before))) is stopped in
-        subst (λ (x : Option Stop). Ends words inputs is_calm files_before files_after before after x (Some blocks))
-        (sym two.0) (at_short (Some blocks) fed before after e
-        (clears (status_of fed) (λ zeroth. absurd (omega (arith, zeroth, least)))) two.1)
+        subst (λ (x : Option Stop).
+        Ends words inputs is_calm files_before files_after before after x (Some blocks) recorded)
+        (sym two.0) (at_short (Some blocks) recorded fed before after e clears two.1)
     after_session stops wholes before after stop stopped found None is =
         let w = whole_is end is in
         let f = found w.0 w.1 in
@@ -287,14 +287,15 @@ module _ (words : List (List ℕ)) (inputs : InputsSeen) (is_calm : Type 0) (fil
 
 pub outcome : (words : List (List ℕ)) (inputs : InputsSeen) (is_calm : Type 0) (files_before files_after : FilesSeen)
     (out_before out_after notes_before notes_after : SinkSeen) (stop : Option Stop) (blocks : Option Finished)
-    (status : ℕ) →
-    Ends words inputs is_calm files_before files_after out_before out_after stop blocks → status ≡ end_status stop →
+    (recorded : Option RecordEnd) (status : ℕ) →
+    Ends words inputs is_calm files_before files_after out_before out_after stop blocks recorded →
+    status ≡ end_status stop →
     TellsNotes Searching words inputs.told notes_before notes_after status →
     Outcome words inputs is_calm files_before files_after out_before out_after notes_before notes_after
-    (record { status = status; blocks = blocks })
-outcome words inputs is_calm files_before files_after out_before out_after notes_before notes_after stop blocks status e
-    is noted =
-    let Run : ℕ → Type 0 = λ n. EndsRun Searching words inputs is_calm blocks files_before files_after n in
+    (record { status = status; blocks = blocks; recorded = recorded })
+outcome words inputs is_calm files_before files_after out_before out_after notes_before notes_after stop blocks recorded
+    status e is noted =
+    let Run : ℕ → Type 0 = λ n. EndsRun Searching words inputs is_calm blocks recorded files_before files_after n in
     let run = subst Run (sym is) e.run in
     record {
       known = subst (λ n. Contains statuses n) (sym is) e.known;
@@ -304,7 +305,7 @@ outcome words inputs is_calm files_before files_after out_before out_after notes
       stopped = run.ends.stopped;
       too_many = λ nine. e.too_many (sym is ∙ nine);
       sealed = run.ends.sealed;
-      cleared = subst (λ n. ClearsBlocks words blocks n) (sym is) e.cleared;
+      cleared = e.cleared;
       recorded = run.ends.recorded;
       noted = noted;
     }
@@ -313,12 +314,13 @@ outcome words inputs is_calm files_before files_after out_before out_after notes
 
 module _ (words : List (List ℕ)) {F : Type 0} (files_open : F → Type 0) (seen : F → FilesSeen) (before after : F) where
   -- they stand
-  pub stand : (blocks : Option Finished) (status : ℕ) → after ≡ before →
-      LeavesFiles Searching words files_open seen before after blocks status
-  stand blocks status same = record {
+  pub stand : (blocks : Option Finished) (recorded : Option RecordEnd) (status : ℕ) → after ≡ before →
+      LeavesFiles Searching words files_open seen before after blocks recorded status
+  stand blocks recorded status same = record {
     before_session = λ none. same;
     unrecorded = λ s says not. same;
     closed = λ quiet shut. subst (λ (files : F). ¬ files_open files) (sym same) shut;
+    shut = λ fine shut. subst (λ (files : F). ¬ files_open files) (sym same) shut;
   }
 
   pub leaves_closed : WordsSayOnce → (s0 : SettingsSeen) (blocks : Finished) (recorded : Option RecordEnd)
@@ -326,12 +328,13 @@ module _ (words : List (List ℕ)) {F : Type 0} (files_open : F → Type 0) (see
       (recorded ≡ Some recorder.FileFault → Rose (seen before).faults (seen after).faults) →
       (recorded ≢ Some recorder.FileFault → ¬ files_open before → ¬ files_open after) →
       (status ≡ 0 → recorded ≢ Some recorder.FileFault) →
-      LeavesFiles Searching words files_open seen before after (Some blocks) status
+      LeavesFiles Searching words files_open seen before after (Some blocks) recorded status
   leaves_closed once s0 blocks recorded status says0 stands rose closed whole = record {
     before_session = λ none. absurd cc;
     unrecorded = λ s says not.
         stands (subst (λ (t : SettingsSeen). t.recording ≡ false) (once Searching words s s0 says says0) not);
     closed = λ quiet shut. closed (fine quiet) shut;
+    shut = closed;
   }
     where
       fine : (status ≡ 0) ⊎ ¬ Rose (seen before).faults (seen after).faults → recorded ≢ Some recorder.FileFault

@@ -23,8 +23,8 @@ use Rattle.stream_model.specs.RecordedLaws.{recorded_of_transfers}
 use Rattle.transfer_text.specs.Text.{transfer_line}
 use Rattle.transfer_text.specs.Searched.{ObservedTransfer, searched_text, candidate_total}
 use Rattle.disk_feeder.specs.Plan.{AreTold}
-use Rattle.run_stop.specs.Runs.{CanSearchFirst, CanRecordFirst, HasCandidates, stream_for, observed_transfers}
-use Rattle.run_stop.specs.Outcomes.{MadeAll, files_of_data}
+use Rattle.run_outcome.specs.Runs.{CanSearchFirst, CanRecordFirst, HasCandidates, stream_for, observed_transfers}
+use Rattle.run_outcome.specs.Outcomes.{MadeAll, files_of_data}
 use Rattle.psr_search.specs.Outcome.{SearchSeen, IsSearched, AcceptedIsSearched}
 use Rattle.psr_search.specs.Causes.{CausesAreAnswered}
 use Rattle.psr_search.specs.RecordedSample.{recording_words, limited_words, first_header, next_header, first_file, next_file, text_of_two, made_files, IsFoundAndMade, BothAreRecorded, BothAreTooMany}
@@ -270,7 +270,7 @@ both_are_recorded is_calm law inputs files_before files_after out_before out_aft
 
     files_at : ran.status ≡ 0 → MadeAll made_files files_before files_after
     files_at e = subst (λ (made : List NamedBytes). MadeAll made files_before files_after) made_of_files
-        (outcome.recorded.all e recording_settings files say_recording told it_records)
+        (outcome.recorded.all e recording_settings files say_recording told it_records).1
 
     by_status : (ran.status ≡ 0) ⊎ (ran.status ≡ 5) →
         ((ran.status ≡ 0) × IsFoundAndMade files_before files_after out_before out_after) ⊎ (ran.status ≡ 5)

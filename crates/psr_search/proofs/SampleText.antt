@@ -15,7 +15,7 @@ use Rattle.search_words.specs.Defaults.{default_settings, sample_search}
 use Rattle.stream_model.specs.Walk.{FileStream, data_of, data_between, observation_at}
 use Rattle.transfer_text.specs.Searched.{ObservedTransfer, searched_text}
 use Rattle.disk_feeder.specs.Plan.{AreTold}
-use Rattle.run_stop.specs.Runs.{stream_for, observed_transfers}
+use Rattle.run_outcome.specs.Runs.{stream_for, observed_transfers}
 use Rattle.psr_search.specs.Sample.{sample_words, sample_header, sample_data, sample_file, sample_text, SampleIsFound}
 
 header : HeaderText

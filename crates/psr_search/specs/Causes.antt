@@ -9,12 +9,12 @@ use Rattle.stream_model.specs.Walk.{FileStream}
 use Rattle.disk_feeder.specs.declared.answers.HeaderCause.{HeaderCause}
 use Rattle.dada_recorder.specs.Making.{Outset, BeginsAt, HasEnoughFor}
 use Rattle.transfer_text.specs.Searched.{searched_text}
-use Rattle.run_stop.specs.declared.causes.PlanCause.{PlanCause}
-use Rattle.run_stop.specs.declared.causes.RecordingCause.{RecordingCause}
-use Rattle.run_stop.specs.declared.stop.Stop.{Stop}
-use Rattle.run_stop.specs.Texts.{status_of}
-use Rattle.run_stop.specs.Runs.{Searching, observed_transfers, RefusesFirstHeader, RefusesSearch, RefusesToRecord, StopsWalk, HasCandidates}
-use Rattle.run_stop.specs.Outcomes.{files_of_data}
+use Rattle.run_outcome.specs.declared.causes.PlanCause.{PlanCause}
+use Rattle.run_outcome.specs.declared.causes.RecordingCause.{RecordingCause}
+use Rattle.run_outcome.specs.declared.stop.Stop.{Stop}
+use Rattle.run_outcome.specs.Texts.{status_of}
+use Rattle.run_outcome.specs.Runs.{Searching, observed_transfers, RefusesFirstHeader, RefusesSearch, RefusesToRecord, StopsWalk, HasCandidates}
+use Rattle.run_outcome.specs.Outcomes.{files_of_data}
 use Rattle.psr_search.specs.Outcome.{ForOutcomes}
 
 -- the status is this one, or there was no memory

@@ -10,10 +10,10 @@ use Rattle.transfer_text.specs.Searched.{ObservedTransfer, candidate_total, sear
 use Rattle.transfer_text.specs.Found.{HasFew}
 use Rattle.dada_recorder.specs.declared.answers.RecordEnd.{RecordEnd}
 use Rattle.dada_recorder.specs.declared.answers.RecordEnd.TheVariants as recorder
-use Rattle.run_stop.specs.declared.stop.Stop.{Stop}
-use Rattle.run_stop.specs.declared.stop.Stop.TheVariants.{TooMany, SinkFault, FileFault}
-use Rattle.run_stop.specs.Runs.{Searching, HasCandidates}
-use Rattle.run_stop.specs.Ends.{EndsRun, end_status, IsSaid}
+use Rattle.run_outcome.specs.declared.stop.Stop.{Stop}
+use Rattle.run_outcome.specs.declared.stop.Stop.TheVariants.{TooMany, SinkFault, FileFault}
+use Rattle.run_outcome.specs.Runs.{Searching, HasCandidates}
+use Rattle.run_outcome.specs.Ends.{EndsRun, end_status, IsSaid}
 use Rattle.psr_search.specs.Outcome.{ForSearch, WritesText, ClearsBlocks}
 
 -- ---- the text
@@ -48,13 +48,13 @@ EndsFed None search transfers recorded before after stop =
 -- all that the outcome says but for the notes
 pub record Ends (words : List (List ℕ)) (inputs : InputsSeen) (is_calm : Type 0)
     (files_before files_after : FilesSeen) (out_before out_after : SinkSeen)
-    (stop : Option Stop) (blocks : Option Finished) : Type 0 where
+    (stop : Option Stop) (blocks : Option Finished) (recorded : Option RecordEnd) : Type 0 where
   pub known : Contains
       (0 ∷ 2 ∷ 3 ∷ 4 ∷ 5 ∷ 6 ∷ 7 ∷ 8 ∷ 9 ∷ 10 ∷ 11 ∷ []) (end_status stop)
   pub written : WritesText words inputs.told out_before out_after (end_status stop)
-  pub run : EndsRun Searching words inputs is_calm blocks files_before files_after
+  pub run : EndsRun Searching words inputs is_calm blocks recorded files_before files_after
       (end_status stop)
   pub too_many : end_status stop ≡ 9 → ForSearch words inputs.told (λ s w.
       HasCandidates s w (λ total. s.search.max_candidates < total))
-  pub cleared : ClearsBlocks words blocks (end_status stop)
+  pub cleared : ClearsBlocks words blocks recorded
   pub said : IsSaid Searching words inputs.told stop

@@ -9,10 +9,12 @@ use Rattle.ring_ends.specs.declared.finished.Finished.{Finished}
 use Rattle.search_words.specs.Settings.{SettingsSeen, SaySearch}
 use Rattle.stream_model.specs.Walk.{FileStream}
 use Rattle.disk_feeder.specs.Plan.{AreTold}
+use Rattle.dada_recorder.specs.declared.answers.RecordEnd.{RecordEnd}
+use Rattle.dada_recorder.specs.declared.answers.RecordEnd.TheVariants.{FileFault}
 use Rattle.transfer_text.specs.Searched.{searched_text}
-use Rattle.run_stop.specs.declared.ran.Ran.{Ran}
-use Rattle.run_stop.specs.Runs.{Searching, stream_for, ForFiles, observed_transfers, HasCandidates}
-use Rattle.run_stop.specs.Outcomes.{JudgesWords, ReadsInputs, StopsAtFiles, SealsStream, AllCleared, RecordsFiles, TellsNotes}
+use Rattle.run_outcome.specs.declared.ran.Ran.{Ran}
+use Rattle.run_outcome.specs.Runs.{Searching, stream_for, ForFiles, observed_transfers, HasCandidates}
+use Rattle.run_outcome.specs.Outcomes.{JudgesWords, ReadsInputs, StopsAtFiles, SealsStream, AllCleared, RecordsFiles, TellsNotes}
 
 -- the words say a search that records its data besides
 abbrev pub AsksToRecord : List (List ℕ) → Type 0
@@ -41,12 +43,12 @@ pub record WritesText
   pub quiet : status ≢ 10 → after.faults ≡ before.faults
   pub untouched : status ≢ 0 → status ≢ 10 → status ≢ 11 → after ≡ before
 
--- the readers that cleared all that was sealed: those of the shards, and at 0 that of the recorder too
-pub record ClearsBlocks (words : List (List ℕ)) (blocks : Option Finished) (status : ℕ) :
-    Type 0 where
+-- the readers that cleared all that was sealed: those of the shards, and that of the recorder unless its end is a fault
+pub record ClearsBlocks (words : List (List ℕ)) (blocks : Option Finished)
+    (recorded : Option RecordEnd) : Type 0 where
   pub shards : (b : Finished) → blocks ≡ Some b → (s : SettingsSeen) → SaySearch words s →
       AllCleared b 0 s.search.shards
-  pub recorder : status ≡ 0 → (b : Finished) → blocks ≡ Some b →
+  pub recorder : recorded ≢ Some FileFault → (b : Finished) → blocks ≡ Some b →
       (s : SettingsSeen) → SaySearch words s → s.recording ≡ true →
       AllCleared b s.search.shards 1
 
@@ -69,9 +71,9 @@ pub record Outcome (words : List (List ℕ)) (inputs : InputsSeen) (is_calm : Ty
   pub too_many : ran.status ≡ 9 → ForSearch words inputs.told (λ s w.
       HasCandidates s w (λ total. s.search.max_candidates < total))
   pub sealed : SealsStream Searching words inputs.told ran.blocks ran.status
-  pub cleared : ClearsBlocks words ran.blocks ran.status
-  pub recorded : RecordsFiles Searching words inputs.told ran.blocks files_before files_after
-      ran.status
+  pub cleared : ClearsBlocks words ran.blocks ran.recorded
+  pub recorded : RecordsFiles Searching words inputs.told ran.blocks ran.recorded files_before
+      files_after ran.status
   pub noted : TellsNotes Searching words inputs.told notes_before notes_after ran.status
 
 -- ---- the other way round, from what is accepted or refused to the status

@@ -7,8 +7,8 @@ use Rattle.psr_base.specs.Count.{Rose}
 use Rattle.psr_base.specs.Made.{NamedBytes, FilesSeen}
 use Rattle.psr_base.specs.Told.{InputsSeen}
 use Rattle.psr_base.specs.Written.{SinkSeen}
-use Rattle.run_stop.specs.declared.ran.Ran.{Ran}
-use Rattle.run_stop.specs.Outcomes.{MadeAll}
+use Rattle.run_outcome.specs.declared.ran.Ran.{Ran}
+use Rattle.run_outcome.specs.Outcomes.{MadeAll}
 use Rattle.psr_search.specs.Outcome.{Outcome}
 use Rattle.psr_search.specs.Causes.{Answers}
 

@@ -5,7 +5,7 @@ use Rattle.std.specs.Io.KnownBytes.{append_known}
 use Rattle.psr_base.specs.Told.{InputsSeen}
 use Rattle.psr_base.specs.Made.{FilesSeen}
 use Rattle.psr_base.specs.Written.{SinkSeen}
-use Rattle.run_stop.specs.declared.ran.Ran.{Ran}
+use Rattle.run_outcome.specs.declared.ran.Ran.{Ran}
 use Rattle.psr_search.specs.Outcome.{Outcome}
 
 abbrev pub sample_words : List (List ℕ)

@@ -7,7 +7,7 @@ ghost use Rattle.psr_search.specs.Sample.{SampleIsFound};
 
 use psr_base::Inputs;
 // Laws: they do nothing when they run, and the proofs use what they ensure.
-use run_stop::{accepted_goes_on, accepted_is_not_refused};
+use run_outcome::{accepted_goes_on, firsts_are_answered, stops_are_answered, texts_are_answered};
 
 /// If arguments, headers and data are accepted, they are searched, or there is no memory, provided that neither the
 /// inputs nor the output nor the files that are made count a fault.
@@ -23,7 +23,10 @@ pub fn accepted_is_searched<I: Inputs>()
 pub fn causes_are_answered<I: Inputs>()
     ensures { (inputs : I) → CausesAreAnswered (I.is_calm inputs) }
 {
-    accepted_is_not_refused();
+    texts_are_answered::<I>();
+    firsts_are_answered::<I>();
+    stops_are_answered::<I>();
+    accepted_goes_on::<I>();
 }
 
 /// If the files that are read are told, 10 never comes over an output that told enough room for the text, nor 11 over

@@ -1,27 +1,28 @@
 // The top call.
 ghost use Rattle.std.specs.Prelude.{◌≡◌, ℕ, Some, None, map, string_bytes};
-ghost use Rattle.run_stop.specs.Outcomes.{ReadsNoData, LeavesAtFault, LeavesFiles};
-ghost use Rattle.run_stop.specs.Runs.{Searching};
+ghost use Rattle.run_outcome.specs.Outcomes.{ReadsNoData, LeavesAtFault, LeavesFiles};
+ghost use Rattle.run_outcome.specs.Runs.{Searching};
 ghost use Rattle.psr_search.specs.Outcome.{AsksToRecord, Outcome};
 ghost use Rattle.psr_search.specs.Ends.{Ends};
 
 use crate::writing::write_end;
+use drive_session::{ProgramEnd, drive};
 use psr_base::{Files, Inputs, Sink};
-use run_stop::{Purpose, Ran, Stop, tell};
+use run_outcome::{Purpose, Ran, Stop, tell};
 use search_session::Gate;
 use search_words::Settings;
 use std::alloc::Global;
 use std::sync::Wait;
 use std::thread::Threads;
 use std::time::Clock;
-use whole_run::{ProgramEnd, drive};
 // Laws: they do nothing when they run, and the proofs use what they ensure.
-use run_stop::{end_after_whole, end_at_stop, end_at_words, end_before_session, words_say_once};
+use run_outcome::{end_after_whole, end_at_stop, end_at_words, end_before_session, words_say_once};
 
 /// Searches the files that the arguments name for dispersed pulses and folded periods, and writes their text to `out`.
 /// The data are recorded in `files` if the arguments ask for it. `words` are the program's name and its arguments.
 /// `gate` is called at each turn. Answers the exit status, and what went through the data ring, if there was one; if
-/// the status isn't 0, a line to `notes` says why. A fault of `notes` changes nothing. It may not end.
+/// the status isn't 0, a line to `notes` says why. `recorded` of the answer says how the recorder ended, also if the
+/// status names another cause. A fault of `notes` changes nothing. It may not end.
 pub fn run<
     I: Inputs + Send,
     F: Files + Send,
@@ -53,11 +54,19 @@ pub fn run<
     ensures broken { result.status ≡ 6 → LeavesAtFault Searching (map string_bytes words.now)
         (I.is_calm inputs.old) (I.told inputs.old) (I.told inputs.new) result.blocks }
     ensures left { LeavesFiles Searching (map string_bytes words.now) F.is_open F.seen files.old
-        files.new result.blocks result.status }
+        files.new result.blocks result.recorded result.status }
 {
-    let ProgramEnd { stop, blocks } = search(rt, alloc, words, inputs, files, out, gate);
+    let ProgramEnd {
+        stop,
+        blocks,
+        recorded,
+    } = search(rt, alloc, words, inputs, files, out, gate);
     let status = tell(stop, notes);
-    Ran { status, blocks }
+    Ran {
+        status,
+        blocks,
+        recorded,
+    }
 }
 
 // Searches as `run` does, without the notes.
@@ -84,7 +93,7 @@ fn search<
           faults_after = I.faults inputs.new;
         })
         (I.is_calm inputs.old) (F.seen files.old) (F.seen files.new) (K.seen out.old)
-        (K.seen out.new) result.stop result.blocks }
+        (K.seen out.new) result.stop result.blocks result.recorded }
     ensures early { result.stop ≡ Some Stop.Memory
         → ReadsNoData Searching (map string_bytes words.now) (I.told inputs.old)
         (I.told inputs.new) }
@@ -93,7 +102,7 @@ fn search<
         (I.told inputs.old) (I.told inputs.new) result.blocks }
     ensures left { (status : ℕ) → (status ≡ 0 → result.stop ≡ None)
         → LeavesFiles Searching (map string_bytes words.now) F.is_open F.seen files.old files.new
-        result.blocks status }
+        result.blocks result.recorded status }
 {
     end_at_words::<I>();
     words_say_once();
@@ -106,6 +115,7 @@ fn search<
             return ProgramEnd {
                 stop: Some(Stop::of_words(fault)),
                 blocks: None,
+                recorded: None,
             };
         }
     };
@@ -123,11 +133,13 @@ fn search<
             ProgramEnd {
                 stop,
                 blocks: Some(found.blocks),
+                recorded: found.recorded,
             }
         }
         Err(stop) => ProgramEnd {
             stop: Some(stop),
             blocks: None,
+            recorded: None,
         },
     }
 }

@@ -5,14 +5,14 @@ ghost use Rattle.transfer_text.specs.Searched.{ObservedTransfer, candidate_total
 ghost use Rattle.transfer_text.specs.Found.{HoldTransfers};
 ghost use Rattle.disk_feeder.specs.declared.answers.FeedEnd.TheVariants.{Whole, ReadFault};
 ghost use Rattle.dada_recorder.specs.declared.answers.RecordEnd.TheVariants.{FileFault};
-ghost use Rattle.run_stop.specs.Conversions.{stop_of_feed};
+ghost use Rattle.run_outcome.specs.Conversions.{stop_of_feed};
 ghost use Rattle.psr_search.specs.Ends.{EndsSearch, EndsFed};
 
+use drive_session::Found;
 use psr_base::Sink;
-use run_stop::Stop;
+use run_outcome::Stop;
 use search_model::Search;
 use transfer_text::{TextStop, write_found};
-use whole_run::Found;
 
 // Writes the text of all data.
 fn write_text<K: Sink>(search: &Search, found: &Found, out: &mut K) -> Option<Stop>

@@ -3,7 +3,7 @@
 
 use psr_base::{RealFiles, RealInputs, RealSink, TakenStreams};
 use psr_search::run;
-use run_stop::words_or_status;
+use run_outcome::words_or_status;
 use search_session::NoGate;
 use std::env;
 use std::process::ExitCode;

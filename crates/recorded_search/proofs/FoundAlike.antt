@@ -3,7 +3,7 @@ use Rattle.std.proofs.Common.{◌≡◌, ℕ, ◌≤◌, List, length, sym, ap, 
 use Rattle.psr_base.specs.Written.{WroteAll}
 use Rattle.search_model.specs.declared.search.Search.{Search}
 use Rattle.transfer_text.specs.Searched.{searched_text, candidate_total}
-use Rattle.run_stop.specs.Runs.{stream_for, observed_transfers, CanSearchFirst}
+use Rattle.run_outcome.specs.Runs.{stream_for, observed_transfers, CanSearchFirst}
 use Rattle.recorded_search.specs.ReadBack.{RecordedIsSearchedAlike, RecordedCanBeSearched}
 use Rattle.recorded_search.specs.Again.{RecordedIsFoundAlike, RecordedIsAccepted}
 

@@ -21,9 +21,9 @@ use Rattle.search_model.specs.declared.search.Search.{Search}
 use Rattle.search_model.specs.Plan.{plan_refusal}
 use Rattle.transfer_text.specs.Searched.{ObservedTransfer, searched_text, candidate_total}
 use Rattle.dada_recorder.specs.Blocks.{header_or_none}
-use Rattle.run_stop.specs.Firsts.{first_file}
-use Rattle.run_stop.specs.Runs.{Searching, CanBegin, CanSearchFirst, first_observation, first_recording, observed_transfers, stream_for}
-use Rattle.run_stop.specs.Outcomes.{recorded_transfers}
+use Rattle.run_outcome.specs.Firsts.{first_file}
+use Rattle.run_outcome.specs.Runs.{Searching, CanBegin, CanSearchFirst, first_observation, first_recording, observed_transfers, stream_for}
+use Rattle.run_outcome.specs.Outcomes.{recorded_transfers}
 use Rattle.psr_record.specs.Outcome.{IsRecordable}
 use Rattle.recorded_search.specs.ReadBack.{HasOffsets, RecordedIsReadBack, RecordedIsObservedAlike, RecordedIsSearchedAlike, RecordedCanBeSearched, NamesRecorded, recorded_stream}
 use Rattle.recorded_search.proofs.ReadBack.{can, data_is, recorded_at}

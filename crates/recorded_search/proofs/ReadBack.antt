@@ -14,9 +14,9 @@ use Rattle.stream_model.specs.WalkLaws.{WholeExactly, WalkJoinsData}
 use Rattle.stream_model.specs.Blocks.{joined_data}
 use Rattle.stream_model.specs.RecordedLaws.{RecordedTransfer, CanBeRecorded, RecordedTransfersGiveTheData, data_of_transfers}
 use Rattle.dada_recorder.specs.Blocks.{header_or_none}
-use Rattle.run_stop.specs.Firsts.{first_file}
-use Rattle.run_stop.specs.Runs.{first_recording}
-use Rattle.run_stop.specs.Outcomes.{recorded_transfers}
+use Rattle.run_outcome.specs.Firsts.{first_file}
+use Rattle.run_outcome.specs.Runs.{first_recording}
+use Rattle.run_outcome.specs.Outcomes.{recorded_transfers}
 use Rattle.psr_record.specs.Outcome.{IsRecordable}
 use Rattle.recorded_search.specs.ReadBack.{HasOffsets, RecordedIsReadBack}
 

@@ -7,8 +7,8 @@ use Rattle.psr_base.specs.Made.{FilesSeen}
 use Rattle.psr_base.specs.Written.{SinkSeen, WroteAll}
 use Rattle.search_words.specs.Settings.{SettingsSeen, RunSeen, RunInRange, SaySearch}
 use Rattle.disk_feeder.specs.Plan.{AreTold}
-use Rattle.run_stop.specs.declared.ran.Ran.{Ran}
-use Rattle.run_stop.specs.Runs.{stream_for}
+use Rattle.run_outcome.specs.declared.ran.Ran.{Ran}
+use Rattle.run_outcome.specs.Runs.{stream_for}
 use Rattle.psr_record.specs.Outcome.{IsRecordable}
 use Rattle.psr_search.specs.Outcome.{IsSearched, Outcome}
 use Rattle.recorded_search.specs.ReadBack.{HasOffsets, NamesRecorded}

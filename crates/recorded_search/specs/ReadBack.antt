@@ -8,8 +8,8 @@ use Rattle.stream_model.specs.Walk as walk
 use Rattle.stream_model.specs.Walk.{FileStream, transfer_data, walk_stop, walk_data}
 use Rattle.stream_model.specs.RecordedLaws.{stream_of_recorded}
 use Rattle.transfer_text.specs.Searched.{searched_text, candidate_total}
-use Rattle.run_stop.specs.Runs.{Searching, stream_for, first_observation, observed_transfers, CanBegin, CanSearchFirst}
-use Rattle.run_stop.specs.Outcomes.{recorded_transfers, files_of_data}
+use Rattle.run_outcome.specs.Runs.{Searching, stream_for, first_observation, observed_transfers, CanBegin, CanSearchFirst}
+use Rattle.run_outcome.specs.Outcomes.{recorded_transfers, files_of_data}
 use Rattle.psr_record.specs.Outcome.{IsRecordable}
 
 -- the files of a recording of all data, in the order in which they were created, as the files of a stream

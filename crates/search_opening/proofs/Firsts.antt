@@ -4,7 +4,8 @@ use Rattle.std.specs.Prelude.{IsSome, slice_index_or, string_bytes}
 use Rattle.std.proofs.lemmas.Bool.{cases_lt}
 use Rattle.std.proofs.lemmas.List.{length-map}
 use Rattle.std.proofs.lemmas.Option.{same_Some, slice_get_within, slice_get-get_or}
-use Rattle.psr_base.specs.Told.{Told, OfFile}
+use mathlib.Core.List.{IsPrefix}
+use Rattle.psr_base.specs.Told.{Told, OfFile, history}
 use Rattle.dada_model.specs.Fields.{HeaderText, header_of, fields_of}
 use Rattle.dada_model.specs.Observation.{Observation, observation_of, observation_in}
 use Rattle.dada_model.specs.Laws.{AcceptedByRows}
@@ -24,9 +25,9 @@ use Rattle.disk_feeder.specs.Front.{BreaksAt}
 use Rattle.disk_feeder.specs.History.{firsts_read, first_of, file_name}
 use Rattle.disk_feeder.specs.Sources as sources
 use Rattle.disk_feeder.specs.Sources.{plan_of}
-use Rattle.run_stop.specs.declared.stop.Stop.TheVariants.{Memory, ReadFault}
-use Rattle.run_stop.specs.Conversions.{stop_of_begin, stop_of_fields}
-use Rattle.run_stop.specs.Firsts.{first_file, first_at, first_name, HasHeader, HaveHeaders, ReadsFirsts, RefusesTextAt, RefusesFields, RefusesFieldsAt, BreaksFirstAt, RefusesFirstFields}
+use Rattle.run_outcome.specs.declared.stop.Stop.TheVariants.{Memory, ReadFault}
+use Rattle.run_outcome.specs.Conversions.{stop_of_begin, stop_of_fields}
+use Rattle.run_outcome.specs.Firsts.{first_file, first_at, first_name, HasHeader, HaveHeaders, ReadsFirsts, RefusesTextAt, RefusesFields, RefusesFieldsAt, BreaksFirstAt, RefusesFirstFields}
 use Rattle.search_opening.specs.First.{OfFirsts, ComesFirst, StopsFirsts, AreFirsts, AreFirstsAt, AreHeadersOf, AreObserved}
 use Rattle.search_opening.proofs.Observed.{as_many, some_at, accepted_at}
 
@@ -212,6 +213,18 @@ module _ (told : Told) (source : Source)
         (omega (arith, below)) b.there in
         told_at (IsFirstBefore (first_at (plan_of source).names source.starts.now b.transfer + 1) source.starts.now
         (length (plan_of source).names)) files are k there (omega (arith, rise), (k, there, refl))));
+    through = λ k within files are.
+        let file_of : ℕ → List ℕ = λ j.
+        slice_index_or files (first_at (plan_of source).names source.starts.now j) [] in
+        let below : k < length source.starts.now = omega (arith, within, b.there) in
+        subst (λ n. IsPrefix (history (firsts_read (λ j. file_name (plan_of source).names
+        (begin_at source.starts.now n j)) file_of k told)) (history told')) many
+        (b.through k within file_of (λ j less.
+        told_at (IsFirstBefore (first_at (plan_of source).names source.starts.now k) source.starts.now
+        (length (plan_of source).names)) files are j (omega (arith, less, below)) (
+          begins_below source.starts.now (length (plan_of source).names) starts j k less below,
+          (j, omega (arith, less, below), refl),
+        )));
     missing = subst (λ name. is_calm → ¬ IsSome (told.bytes_under name)) (named b.transfer) b.missing;
     unopened = λ calm files are.
         let file_of : ℕ → List ℕ = λ k.

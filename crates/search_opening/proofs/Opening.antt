@@ -16,13 +16,13 @@ use Rattle.search_opening.specs.Offsets.{AreOffsetsOf}
 use Rattle.search_opening.specs.Plans.{PlansFit, IsOfPlan, RefusesObservation, StopsSearch}
 use Rattle.search_opening.specs.Recordings.{RecordingsFit, IsOfRecording, StopsRecording}
 use Rattle.search_opening.specs.Space.{FeedsRings}
-use Rattle.run_stop.specs.declared.stop.Stop.{Stop}
-use Rattle.run_stop.specs.declared.stop.Stop.TheVariants.{Words, Value, Header, Plan, Recording, Memory, ReadFault, Gap, TooLong, TooMany, SinkFault, FileFault}
-use Rattle.run_stop.specs.Ends.{ComesBefore}
-use Rattle.run_stop.specs.Firsts.{ReadsFirsts, RefusesTextAt, RefusesFieldsAt, BreaksFirstAt, RefusesFirstFields}
-use Rattle.run_stop.specs.declared.causes.PlanCause.{PlanCause}
-use Rattle.run_stop.specs.declared.causes.RecordingCause.{RecordingCause}
-use Rattle.run_stop.specs.Runs.{Task, Searching, RecordingAlone, Alone, SettingsFor, is_search, IfSearch, MayBegin, RefusesSearch, RefusesSearchAt, RefusesToRecord, RefusesRecordingAt, stream_for}
+use Rattle.run_outcome.specs.declared.stop.Stop.{Stop}
+use Rattle.run_outcome.specs.declared.stop.Stop.TheVariants.{Words, Value, Header, Plan, Recording, Memory, ReadFault, Gap, TooLong, TooMany, SinkFault, FileFault}
+use Rattle.run_outcome.specs.Ends.{ComesBefore}
+use Rattle.run_outcome.specs.Firsts.{ReadsFirsts, RefusesTextAt, RefusesFieldsAt, BreaksFirstAt, RefusesFirstFields}
+use Rattle.run_outcome.specs.declared.causes.PlanCause.{PlanCause}
+use Rattle.run_outcome.specs.declared.causes.RecordingCause.{RecordingCause}
+use Rattle.run_outcome.specs.Runs.{Task, Searching, RecordingAlone, Alone, SettingsFor, is_search, IfSearch, MayBegin, RefusesSearch, RefusesSearchAt, RefusesToRecord, RefusesRecordingAt, stream_for}
 use Rattle.search_opening.specs.declared.spaces.Spaces.{Spaces}
 use Rattle.search_opening.specs.Settings.{CanBeDriven, OfRunFirsts, JudgesRun}
 use Rattle.search_opening.specs.Early.{SaysEarly, StopsEarly, LeavesEarly}

@@ -7,9 +7,9 @@ use Rattle.search_model.specs.declared.search.Search.{Search}
 use Rattle.search_words.specs.declared.settings.RunSettings.{RunSettings}
 use Rattle.search_words.specs.Settings.{run_seen}
 use Rattle.session_readers.specs.declared.bank.Bank.{Bank}
-use Rattle.run_stop.specs.declared.purpose.Purpose.{Purpose}
-use Rattle.run_stop.specs.declared.purpose.Purpose.TheVariants as purpose
-use Rattle.run_stop.specs.Runs.{Task, Searching, RecordingAlone, Alone, SearchFor, IfSearch, task_of, search_for, settings_for}
+use Rattle.run_outcome.specs.declared.purpose.Purpose.{Purpose}
+use Rattle.run_outcome.specs.declared.purpose.Purpose.TheVariants as purpose
+use Rattle.run_outcome.specs.Runs.{Task, Searching, RecordingAlone, Alone, SearchFor, IfSearch, task_of, search_for, settings_for}
 use Rattle.search_opening.specs.Spaces.{AreBanksOf, recorders}
 
 -- what follows of the search, where there is one

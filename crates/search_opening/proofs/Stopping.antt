@@ -18,15 +18,15 @@ use Rattle.dada_recorder.specs.Blocks.{header_or_none}
 use Rattle.dada_recorder.specs.Changes.{recording, Explains}
 use Rattle.dada_recorder.specs.declared.answers.RecordFault.{RecordFault}
 use Rattle.dada_recorder.specs.declared.answers.RecordFault.TheVariants as fault
-use Rattle.run_stop.specs.declared.causes.PlanCause.{PlanCause}
-use Rattle.run_stop.specs.declared.causes.PlanCause.TheVariants.{SumBound, FoldTooLarge, TooManyFolds, TooManyShards}
-use Rattle.run_stop.specs.declared.causes.RecordingCause.{RecordingCause}
-use Rattle.run_stop.specs.declared.causes.RecordingCause.TheVariants.{NoUtc, BadUtc, Overfull, TooManyFiles}
-use Rattle.run_stop.specs.declared.stop.Stop.{Stop}
-use Rattle.run_stop.specs.declared.stop.Stop.TheVariants as stop
-use Rattle.run_stop.specs.Firsts.{EachFirst}
-use Rattle.run_stop.specs.Conversions.{stop_of_plan, IsRecordingStop}
-use Rattle.run_stop.specs.Runs.{Task, SettingsFor, IfSearch, first_observation, first_recording, recording_of, CanSearch, CanRecord, CanSearchFirst, CanRecordFirst, IsPlanCause, IsRecordingCause, OfEachFirst, RefusesSearch, RefusesSearchAt, RefusesToRecord, RefusesRecordingAt}
+use Rattle.run_outcome.specs.declared.causes.PlanCause.{PlanCause}
+use Rattle.run_outcome.specs.declared.causes.PlanCause.TheVariants.{SumBound, FoldTooLarge, TooManyFolds, TooManyShards}
+use Rattle.run_outcome.specs.declared.causes.RecordingCause.{RecordingCause}
+use Rattle.run_outcome.specs.declared.causes.RecordingCause.TheVariants.{NoUtc, BadUtc, Overfull, TooManyFiles}
+use Rattle.run_outcome.specs.declared.stop.Stop.{Stop}
+use Rattle.run_outcome.specs.declared.stop.Stop.TheVariants as stop
+use Rattle.run_outcome.specs.Firsts.{EachFirst}
+use Rattle.run_outcome.specs.Conversions.{stop_of_plan, IsRecordingStop}
+use Rattle.run_outcome.specs.Runs.{Task, SettingsFor, IfSearch, first_observation, first_recording, recording_of, CanSearch, CanRecord, CanSearchFirst, CanRecordFirst, IsPlanCause, IsRecordingCause, OfEachFirst, RefusesSearch, RefusesSearchAt, RefusesToRecord, RefusesRecordingAt}
 use Rattle.search_opening.specs.First.{AreFirsts, AreHeadersOf, IsFirstOf, AreFirstsAt}
 use Rattle.search_opening.specs.Plans.{PlansFit, RefusesPlan, RefusesObservation, StopsSearch}
 use Rattle.search_opening.specs.Recordings.{RecordingsFit, RefusesTransfer, RefusesRecordingOf, StopsRecording}

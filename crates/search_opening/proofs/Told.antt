@@ -11,21 +11,23 @@ use Rattle.stream_model.specs.WalkLaws.{IsAccepted}
 use Rattle.stream_model.specs.Recorded.{record_refusal}
 use Rattle.search_model.specs.Plan.{plan_refusal}
 use Rattle.obs_plan.specs.declared.fault.ObsFault.{ObsFault}
-use Rattle.run_stop.specs.declared.causes.PlanCause.{PlanCause}
-use Rattle.run_stop.specs.declared.causes.RecordingCause.{RecordingCause}
+use Rattle.run_outcome.specs.declared.causes.PlanCause.{PlanCause}
+use Rattle.run_outcome.specs.declared.causes.RecordingCause.{RecordingCause}
 use Rattle.disk_feeder.specs.declared.answers.HeaderCause.TheVariants.{Text, Fields}
 use Rattle.disk_feeder.specs.declared.feeder.Feeder.{Feeder}
+use Rattle.disk_feeder.specs.declared.place.Place.{Place}
 use Rattle.disk_feeder.specs.Feeder.{HasPlan, plan_at}
+use Rattle.disk_feeder.specs.Feeding.{IsCutPast}
 use Rattle.disk_feeder.specs.Filling.{HoldsAll}
 use Rattle.disk_feeder.specs.History.{file_name}
-use Rattle.disk_feeder.specs.Plan.{stream_of, AreTold, AreToldAt, IsFirstFile}
+use Rattle.disk_feeder.specs.Plan.{Plan as FeedPlan, stream_of, AreTold, AreToldAt, IsFirstFile}
 use Rattle.disk_feeder.specs.Reading.{NoStopBefore}
-use Rattle.run_stop.specs.declared.stop.Stop.{Stop}
-use Rattle.run_stop.specs.declared.stop.Stop.TheVariants.{Words, Value, Header, Plan, Recording, Memory, ReadFault, Gap, TooLong, TooMany, SinkFault, FileFault}
-use Rattle.run_stop.specs.Firsts.{first_name, EachFirst, HasHeader, RefusesFields, RefusesFieldsAt, RefusesFirstFields}
-use Rattle.run_stop.specs.Runs.{Task, SettingsFor, IfSearch, CanSearch, CanRecord, CanBegin, recording_of, IsPlanCause, IsRecordingCause, RefusesSearch, RefusesSearchAt, RefusesToRecord, RefusesRecordingAt, stream_for}
+use Rattle.run_outcome.specs.declared.stop.Stop.{Stop}
+use Rattle.run_outcome.specs.declared.stop.Stop.TheVariants.{Words, Value, Header, Plan, Recording, Memory, ReadFault, Gap, TooLong, TooMany, SinkFault, FileFault}
+use Rattle.run_outcome.specs.Firsts.{first_name, EachFirst, HasHeader, RefusesFields, RefusesFieldsAt, RefusesFirstFields}
+use Rattle.run_outcome.specs.Runs.{Task, SettingsFor, IfSearch, CanSearch, CanRecord, CanBegin, recording_of, IsPlanCause, IsRecordingCause, RefusesSearch, RefusesSearchAt, RefusesToRecord, RefusesRecordingAt, stream_for}
 use Rattle.search_opening.specs.Early.{SaysEarly, StopsEarly}
-use Rattle.search_opening.specs.Ended.{FirstsStayTold}
+use Rattle.search_opening.specs.Ended.{CutsStayTold, FirstsStayTold}
 use Rattle.search_opening.proofs.Purposes.{if_search}
 use Rattle.search_opening.specs.Settings.{OfRun, OfRunAt, JudgesRun, BeginsRun, PassesRunTo}
 
@@ -41,6 +43,38 @@ still_told Needed old new names files same are = record {
 pub firsts_stay : FirstsStayTold
 firsts_stay names starts old new files same are =
     still_told (IsFirstFile starts (length names)) old new names files same are
+
+-- what was sealed at a fault is so whatever the first headers are
+with_headers : (names : List (List ℕ)) (starts : List ℕ) (limit : ℕ) (plan plan' : FeedPlan) (old new : Told)
+    (at : Place) (size : ℕ) (blocks : List _) → new.bytes_under ≡ old.bytes_under →
+    IsCutPast (record plan { names = names; starts = starts; max_bytes = limit }) new at size blocks →
+    IsCutPast (record plan' { names = names; starts = starts; max_bytes = limit }) old at size blocks
+with_headers names starts limit plan plan' old new at size blocks same cut = record {
+  inside = record { there = cut.inside.there; from = cut.inside.from; before = cut.inside.before };
+  before = cut.before;
+  current = cut.current;
+  transfers = cut.transfers;
+  since = cut.since;
+  begin = record {
+    here = λ k from up files are.
+        cut.begin.here k from up files (still_told (λ j. j < k) old new names files same are);
+    past = λ transfer k earlier from up files are.
+        cut.begin.past transfer k earlier from up files (still_told (λ j. j < k) old new names files same are);
+  };
+  few = cut.few;
+  stream = cut.stream;
+}
+
+pub cuts_stay : CutsStayTold
+cuts_stay plan plan' old new at size blocks names starts limit same cut =
+    let P : FeedPlan → Type 0 = λ p. IsCutPast p old at size blocks in
+    subst (λ (n : ℕ). P (record plan' { max_bytes = n })) limit
+    (subst (λ (st : List ℕ). P (record plan' { starts = st; max_bytes = plan.max_bytes })) starts
+    (subst (λ (ns : List (List ℕ)). P (record plan' {
+      names = ns;
+      starts = plan.starts;
+      max_bytes = plan.max_bytes;
+    })) names (with_headers plan.names plan.starts plan.max_bytes plan plan' old new at size blocks same cut)))
 
 -- inputs that hold all files hold them still
 pub hold_still : (old new : Told) (names names' : List (List ℕ)) → new.bytes_under ≡ old.bytes_under →

@@ -1,7 +1,8 @@
 -- What a run comes to, for all words that say its settings.
-use Rattle.std.proofs.Common.{◌≡◌, ℕ, ◌+◌, ◌<◌, ◌≤◌, true, inr, List, Option, Some, None, length, sym, ap, ◌∙◌, subst, arith}
+use Rattle.std.proofs.Common.{◌≡◌, ℕ, ◌+◌, ◌<◌, ◌≤◌, inr, List, Option, Some, None, length, sym, ap, ◌∙◌, subst, arith}
 use Rattle.std.specs.Prelude.{IsSome}
-use Rattle.psr_base.specs.Told.{Told}
+use mathlib.Core.List.{IsPrefix}
+use Rattle.psr_base.specs.Told.{Told, history}
 use Rattle.search_words.specs.Settings.{SettingsOf}
 use Rattle.ring_ends.specs.Ended.{sealed_at_end}
 use Rattle.stream_model.specs.Walk.{FileStream, stop_at, transfer_data}
@@ -11,22 +12,22 @@ use Rattle.disk_feeder.specs.declared.answers.HeaderCause.TheVariants.{Text, Fie
 use Rattle.disk_feeder.specs.declared.feeder.Feeder.{Feeder}
 use Rattle.disk_feeder.specs.declared.place.Place.{Place}
 use Rattle.disk_feeder.specs.Feeder.{plan_at, names_at, block_size}
-use Rattle.disk_feeder.specs.Feeding.{EndIs, StopsWalkAt, IsCutAt, IsEnded, SealedAs}
-use Rattle.disk_feeder.specs.History.{file_name, IsShut, BreaksIf}
+use Rattle.disk_feeder.specs.Feeding.{EndIs, StopsWalkAt, IsCutAt, IsCutPast, IsEnded, SealedAs}
+use Rattle.disk_feeder.specs.History.{file_name, read_before, IsShut, BreaksIf}
 use Rattle.disk_feeder.specs.Plan.{Plan, AreToldAt, IsFirstFile, IsAmong, opened_at}
 use Rattle.disk_feeder.specs.Reading.{judged_at}
 use Rattle.search_session.specs.declared.ended.SessionEnd.{SessionEnd}
 use Rattle.search_session.specs.Sessions.{FeedAnswers, data_through}
-use Rattle.run_stop.specs.declared.stop.Stop.{Stop}
-use Rattle.run_stop.specs.declared.stop.Stop.TheVariants.{Words, Value, Header, Plan as Refused, Recording, Memory, ReadFault, Gap, TooLong, TooMany, SinkFault, FileFault}
-use Rattle.run_stop.specs.Ends.{WordsSayOnce, SaysBefore, IsRunFed}
-use Rattle.run_stop.specs.Firsts.{ReadsFirsts, RefusesTextAt, RefusesFieldsAt, BreaksFirstAt, RefusesFirstFields}
-use Rattle.run_stop.specs.Outcomes.{LeavesAtFault, MadeAll, MadeFront, files_of_stream}
-use Rattle.run_stop.specs.Runs.{Task, SettingsFor, IfSearch, Says, ForFilesAt, JudgesFirsts, PassesTo, MayBegin, CanBegin, RefusesSearch, RefusesSearchAt, RefusesToRecord, RefusesRecordingAt, stream_for}
+use Rattle.run_outcome.specs.declared.stop.Stop.{Stop}
+use Rattle.run_outcome.specs.declared.stop.Stop.TheVariants.{Words, Value, Header, Plan as Refused, Recording, Memory, ReadFault, Gap, TooLong, TooMany, SinkFault, FileFault}
+use Rattle.run_outcome.specs.Ends.{WordsSayOnce, SaysBefore, IsRunFed}
+use Rattle.run_outcome.specs.Firsts.{ReadsFirsts, RefusesTextAt, RefusesFieldsAt, BreaksFirstAt, RefusesFirstFields}
+use Rattle.run_outcome.specs.Outcomes.{LeavesAtFault, MadeBy, files_of_stream}
+use Rattle.run_outcome.specs.Runs.{Task, SettingsFor, IfSearch, Says, ForFilesAt, JudgesFirsts, PassesTo, MayBegin, CanBegin, RefusesSearch, RefusesSearchAt, RefusesToRecord, RefusesRecordingAt, stream_for, plan_for}
 use Rattle.search_opening.specs.Early.{SaysEarly}
 use Rattle.search_opening.specs.Ended.{EarlyStopsAreSaid, EarlyStopsLeave, HasReadSince, SessionsFeedFiles, RecordingsAreSaid}
 use Rattle.search_opening.specs.Settings.{OfRunAt, OfRunTo, JudgesRun, BeginsRun, PassesRunTo, ForWords}
-use Rattle.search_opening.proofs.Told.{FeedsRun, before_reading, begins_before_reading, hold_still, of_plan, all_of_plan, passes_run}
+use Rattle.search_opening.proofs.Told.{FeedsRun, before_reading, begins_before_reading, hold_still, cuts_stay, of_plan, all_of_plan, passes_run}
 
 -- words say one settings: so what holds of the files of a run holds for them
 for_files : WordsSayOnce → (task : Task) (Needed : SettingsFor task → ℕ → Type 0) (words : List (List ℕ))
@@ -192,6 +193,8 @@ module _ {I F : Type 0} (once : WordsSayOnce) (told : I → Told) (is_calm : I �
       (λ w. BreaksIf at.is_open ns w old new at) in
       let Shut : List (List ℕ) → Type 0 = λ ns. OfRunAt (with_firsts at.file s) old s
       (λ w. IsShut ns w old new at.transfer at.file at.since) in
+      let Through : List (List ℕ) → ℕ → FileStream → Type 0 = λ ns k w.
+      IsPrefix (history (read_before ns w k old)) (history new) in
       let Lacks : List (List ℕ) → Told → Type 0 = λ ns t.
       (at.file < length ns) × ¬ IsSome (t.bytes_under (file_name ns at.file)) in
       let Missing : SettingsFor task → Type 0 = λ t. Lacks t.names old in
@@ -209,6 +212,13 @@ module _ {I F : Type 0} (once : WordsSayOnce) (told : I → Told) (is_calm : I �
             (λ t w. BreaksIf at.is_open t.names w old new at) says
             (subst Stood plan.files (of_plan (IsAmong (at.file + 1)) feeder s old new
             (λ w. BreaksIf at.is_open names w old new at) plan same broke.stood));
+        past = for_settings once task words s (λ t. IsCutPast (plan_for t) old at t.size blocks) says
+            (subst (λ (size : ℕ). IsCutPast (plan_for s) old at size blocks) plan.block
+            (cuts_stay (plan_at feeder) (plan_for s) old new at (block_size feeder) blocks plan.files plan.transfers
+            plan.limit same broke.past));
+        through = λ k below. for_files once task (λ t. with_firsts k t) words s old (λ t w. Through t.names k w) says
+            (subst (λ ns. OfRunAt (with_firsts k s) old s (Through ns k)) plan.files
+            (of_plan (IsAmong k) feeder s old new (Through names k) plan same (broke.through k below)));
         missing = λ is. for_settings once task words s Missing says
             (subst (λ ns. Lacks ns old) plan.files
             (lacks_before names at.file (fed.missing (read.calm is) failed)));
@@ -248,21 +258,18 @@ sessions_feed once told is_calm faults feeder end fed task s before plan read =
 -- ---- what is recorded
 
 pub recordings_said : WordsSayOnce → RecordingsAreSaid
-recordings_said once task s old new blocks answer before after same by words says =
+recordings_said once task s old new blocks feed answer before after same by words says =
     let sealed = sealed_at_end blocks in
     record {
       unrecorded = λ t says' not.
           by.unrecorded (ap (λ (u : SettingsFor task). u.recording) (once task words s t says says') ∙ not);
-      all = λ fine. for_files once task (λ t. firsts t) words s old (λ t w. t.recording ≡ true →
-          MadeAll (files_of_stream w t.file_size sealed) before after) says
-          (before_reading (firsts s) s old new (λ w. s.recording ≡ true →
-          MadeAll (files_of_stream w s.file_size sealed) before after) same
-          (λ files are records. by.all fine records files are));
-      front = λ failed. for_files once task (λ t. firsts t) words s old (λ t w. t.recording ≡ true →
-          MadeFront (files_of_stream w t.file_size sealed) before after) says
-          (before_reading (firsts s) s old new (λ w. s.recording ≡ true →
-          MadeFront (files_of_stream w s.file_size sealed) before after) same
-          (λ files are records. by.front failed records files are));
+      ended = λ t says' is.
+          by.ended (ap (λ (u : SettingsFor task). u.recording) (once task words s t says says') ∙ is);
+      as_fed = by.as_fed;
+      made = λ end is. for_files once task (λ t. firsts t) words s old
+          (λ t w. MadeBy end (files_of_stream w t.file_size sealed) before after) says
+          (before_reading (firsts s) s old new
+          (λ w. MadeBy end (files_of_stream w s.file_size sealed) before after) same (by.made end is));
       rose = by.rose;
       quiet = by.quiet;
       count = by.count;

@@ -6,7 +6,7 @@ use Rattle.psr_base.specs.Told.{Told}
 use Rattle.search_words.specs.Settings.{RunSeen}
 use Rattle.disk_feeder.specs.declared.feeder.Feeder.{Feeder}
 use Rattle.disk_feeder.specs.Feeder.{HasPlan, IsBegun, HasOpenFile, FeederRead, headers_of}
-use Rattle.run_stop.specs.Firsts.{ReadsFirsts}
+use Rattle.run_outcome.specs.Firsts.{ReadsFirsts}
 use Rattle.search_opening.specs.First.{AreFirsts, AreFirstsAt, AreHeadersOf, AreObserved}
 use Rattle.search_opening.specs.Settings.{OfRunFirsts}
 

@@ -4,11 +4,11 @@ use Rattle.std.specs.Prelude.{◌≡◌, true, ⊤}
 use Rattle.psr_base.specs.Told.{Told}
 use Rattle.search_words.specs.Settings.{RunSeen}
 use Rattle.disk_feeder.specs.declared.answers.HeaderCause.TheVariants.{Text, Fields}
-use Rattle.run_stop.specs.declared.stop.Stop.{Stop}
-use Rattle.run_stop.specs.declared.stop.Stop.TheVariants.{Memory, ReadFault, Header, Plan, Recording}
-use Rattle.run_stop.specs.Runs.{Task, SettingsFor, is_search, IfSearch, RefusesSearch, RefusesSearchAt, RefusesToRecord, RefusesRecordingAt}
-use Rattle.run_stop.specs.Ends.{ComesBefore}
-use Rattle.run_stop.specs.Firsts.{ReadsFirsts, RefusesTextAt, RefusesFieldsAt, BreaksFirstAt, RefusesFirstFields}
+use Rattle.run_outcome.specs.declared.stop.Stop.{Stop}
+use Rattle.run_outcome.specs.declared.stop.Stop.TheVariants.{Memory, ReadFault, Header, Plan, Recording}
+use Rattle.run_outcome.specs.Runs.{Task, SettingsFor, is_search, IfSearch, RefusesSearch, RefusesSearchAt, RefusesToRecord, RefusesRecordingAt}
+use Rattle.run_outcome.specs.Ends.{ComesBefore}
+use Rattle.run_outcome.specs.Firsts.{ReadsFirsts, RefusesTextAt, RefusesFieldsAt, BreaksFirstAt, RefusesFirstFields}
 use Rattle.search_opening.specs.Settings.{OfRunFirsts, JudgesRun}
 
 -- what a stop before the session says of the files, over the first ones that it needs

@@ -1,7 +1,7 @@
 -- What a run came to that was opened, or that stopped before: for all words that say its settings, and over the files
 -- as they were told before any of them was read. Laws of it; functions of this crate carry them.
 -- Source: this project's choice.
-use Rattle.std.specs.Prelude.{◌≡◌, ◌≢◌, ℕ, ◌<◌, ◌≤◌, true, false, List, length, Option, Some, None}
+use Rattle.std.specs.Prelude.{◌≡◌, ◌≢◌, ℕ, ◌<◌, ◌≤◌, true, false, List, length, Option, Some, None, IsSome}
 use Rattle.psr_base.specs.Count.{Rose}
 use Rattle.psr_base.specs.Made.{FilesSeen}
 use Rattle.psr_base.specs.Told.{Told}
@@ -13,18 +13,20 @@ use Rattle.stream_model.specs.Walk.{transfer_data}
 use Rattle.disk_feeder.specs.declared.answers.FeedEnd.{FeedEnd}
 use Rattle.disk_feeder.specs.declared.answers.FeedEnd.TheVariants.{Whole, ReadFault}
 use Rattle.disk_feeder.specs.declared.feeder.Feeder.{Feeder}
+use Rattle.disk_feeder.specs.declared.place.Place.{Place}
 use Rattle.disk_feeder.specs.Feeder.{HasPlan, FeederRead}
+use Rattle.disk_feeder.specs.Feeding.{IsCutPast}
 use Rattle.disk_feeder.specs.Filling.{HoldsAll}
-use Rattle.disk_feeder.specs.Plan.{AreToldAt, IsFirstFile}
+use Rattle.disk_feeder.specs.Plan.{Plan, AreToldAt, IsFirstFile}
 use Rattle.dada_recorder.specs.declared.answers.RecordEnd.{RecordEnd}
 use Rattle.dada_recorder.specs.declared.answers.RecordEnd.TheVariants.{FileFault}
 use Rattle.search_session.specs.declared.ended.SessionEnd.{SessionEnd}
 use Rattle.search_session.specs.Sessions.{FeedAnswers}
-use Rattle.run_stop.specs.declared.stop.Stop.{Stop}
-use Rattle.run_stop.specs.declared.stop.Stop.TheVariants.{Memory, ReadFault as FailedRead}
-use Rattle.run_stop.specs.Runs.{Task, SettingsFor}
-use Rattle.run_stop.specs.Ends.{StopsBefore, IsRunFed, IsRecorded}
-use Rattle.run_stop.specs.Outcomes.{ReadsNoData, LeavesAtFault, MadeAll, MadeFront, files_of_stream}
+use Rattle.run_outcome.specs.declared.stop.Stop.{Stop}
+use Rattle.run_outcome.specs.declared.stop.Stop.TheVariants.{Memory, ReadFault as FailedRead}
+use Rattle.run_outcome.specs.Runs.{Task, SettingsFor}
+use Rattle.run_outcome.specs.Ends.{StopsBefore, IsRunFed, EndsAsFed, IsRecorded}
+use Rattle.run_outcome.specs.Outcomes.{ReadsNoData, LeavesAtFault, MadeBy, files_of_stream}
 use Rattle.search_opening.specs.Early.{StopsEarly, LeavesEarly}
 use Rattle.search_opening.specs.Settings.{ForWords, OfRun, OfRunFirsts, BeginsRun}
 
@@ -53,6 +55,14 @@ FirstsStayTold = (names : List (List ℕ)) (starts : List ℕ) (old new : Told)
     (files : List (List ℕ)) → new.bytes_under ≡ old.bytes_under →
     AreToldAt (IsFirstFile starts (length names)) old names files →
     AreToldAt (IsFirstFile starts (length names)) new names files
+
+-- What was sealed at a fault is so for each plan with the same names, starts and limit, as long as what is told under
+-- the names stands.
+abbrev pub CutsStayTold : Type 0
+CutsStayTold = (plan plan' : Plan) (old new : Told) (at : Place) (size : ℕ) (blocks : List _) →
+    plan.names ≡ plan'.names → plan.starts ≡ plan'.starts → plan.max_bytes ≡ plan'.max_bytes →
+    new.bytes_under ≡ old.bytes_under → IsCutPast plan new at size blocks →
+    IsCutPast plan' old at size blocks
 
 -- ---- by its session
 
@@ -101,14 +111,14 @@ SessionsFeedFiles {I} F told is_calm faults = (feeder : Feeder I) (end : Session
 -- ---- by its recorder
 
 -- What was recorded of what went through, over the settings: all of it, or a front where a call failed; or nothing was
--- to be recorded. The recorder ended with this answer, if there was one.
+-- to be recorded. The feeder ended so, and the recorder with this answer, if there was one.
 pub record RecordsRun {S : Type 0} (s : SettingsOf S) (told : Told) (blocks : Finished)
-    (answer : Option RecordEnd) (before after : FilesSeen) : Type 0 where
-  pub unrecorded : s.recording ≡ false → (after ≡ before) × (answer ≢ Some FileFault)
-  pub all : answer ≢ Some FileFault → s.recording ≡ true → OfRunFirsts told s (λ w.
-      MadeAll (files_of_stream w s.file_size (sealed_at_end blocks)) before after)
-  pub front : answer ≡ Some FileFault → s.recording ≡ true → OfRunFirsts told s (λ w.
-      MadeFront (files_of_stream w s.file_size (sealed_at_end blocks)) before after)
+    (feed : FeedEnd) (answer : Option RecordEnd) (before after : FilesSeen) : Type 0 where
+  pub unrecorded : s.recording ≡ false → (after ≡ before) × (answer ≡ None)
+  pub ended : s.recording ≡ true → IsSome answer
+  pub as_fed : (end : RecordEnd) → answer ≡ Some end → EndsAsFed feed end
+  pub made : (end : RecordEnd) → answer ≡ Some end → OfRunFirsts told s (λ w.
+      MadeBy end (files_of_stream w s.file_size (sealed_at_end blocks)) before after)
   pub rose : answer ≡ Some FileFault → Rose before.faults after.faults
   pub quiet : answer ≢ Some FileFault → after.faults ≡ before.faults
   pub count : before.faults ≤ after.faults
@@ -116,6 +126,6 @@ pub record RecordsRun {S : Type 0} (s : SettingsOf S) (told : Told) (blocks : Fi
 -- so its words say, over the files as they were told before
 abbrev pub RecordingsAreSaid : Type 0
 RecordingsAreSaid = (task : Task) (s : SettingsFor task) (old new : Told) (blocks : Finished)
-    (answer : Option RecordEnd) (before after : FilesSeen) → new.bytes_under ≡ old.bytes_under →
-    RecordsRun s new blocks answer before after →
-    ForWords task s (λ words. IsRecorded task words old blocks answer before after)
+    (feed : FeedEnd) (answer : Option RecordEnd) (before after : FilesSeen) →
+    new.bytes_under ≡ old.bytes_under → RecordsRun s new blocks feed answer before after →
+    ForWords task s (λ words. IsRecorded task words old blocks feed answer before after)

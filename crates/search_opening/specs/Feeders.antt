@@ -8,9 +8,9 @@ use Rattle.stream_model.specs.WalkLaws.{AreStarts}
 use Rattle.disk_feeder.specs.declared.feeder.Feeder.{Feeder}
 use Rattle.disk_feeder.specs.Feeder.{IsFresh, IsBegun, KeepsBegun, FeederFeeds, FeederRead, HasOpenFile, headers_of, names_at, plan_at}
 use Rattle.disk_feeder.specs.Feeding.{header_entries}
-use Rattle.run_stop.specs.declared.stop.Stop.{Stop}
-use Rattle.run_stop.specs.declared.stop.Stop.TheVariants.{Memory, ReadFault}
-use Rattle.run_stop.specs.Firsts.{ReadsFirsts, BreaksFirstAt}
+use Rattle.run_outcome.specs.declared.stop.Stop.{Stop}
+use Rattle.run_outcome.specs.declared.stop.Stop.TheVariants.{Memory, ReadFault}
+use Rattle.run_outcome.specs.Firsts.{ReadsFirsts, BreaksFirstAt}
 use Rattle.search_opening.specs.First.{OfFirsts, AreFirsts, AreFirstsAt, AreHeadersOf, AreObserved, ComesFirst, StopsFirsts}
 
 -- P holds of the feeder's files as a walk sees them, where the first one of each transfer is told

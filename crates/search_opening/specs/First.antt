@@ -9,9 +9,9 @@ use Rattle.stream_model.specs.Walk.{FileStream, observation_at}
 use Rattle.stream_model.specs.WalkLaws.{AreWalked}
 use Rattle.disk_feeder.specs.declared.answers.HeaderCause.TheVariants.{Text, Fields}
 use Rattle.disk_feeder.specs.Plan.{Plan, stream_of, AreToldAt, IsFirstFile}
-use Rattle.run_stop.specs.declared.stop.Stop.{Stop}
-use Rattle.run_stop.specs.declared.stop.Stop.TheVariants.{Header, Memory, ReadFault}
-use Rattle.run_stop.specs.Firsts.{first_file, first_name, RefusesTextAt, RefusesFieldsAt, RefusesFirstFields}
+use Rattle.run_outcome.specs.declared.stop.Stop.{Stop}
+use Rattle.run_outcome.specs.declared.stop.Stop.TheVariants.{Header, Memory, ReadFault}
+use Rattle.run_outcome.specs.Firsts.{first_file, first_name, RefusesTextAt, RefusesFieldsAt, RefusesFirstFields}
 use Rattle.search_opening.specs.declared.first.RefusedHeader.{RefusedHeader}
 
 -- ---- the files

@@ -4,11 +4,11 @@ use Rattle.std.specs.Prelude.{◌≡◌, ◌≢◌, true, List, length, Option, 
 use Rattle.dada_model.specs.Fields.{HeaderText}
 use Rattle.dada_model.specs.Observation.{Observation}
 use Rattle.stream_model.specs.Walk.{FileStream}
-use Rattle.run_stop.specs.declared.causes.RecordingCause.{RecordingCause}
-use Rattle.run_stop.specs.declared.stop.Stop.{Stop}
-use Rattle.run_stop.specs.declared.stop.Stop.TheVariants.{Memory, ReadFault, Plan, Recording}
-use Rattle.run_stop.specs.Runs.{Task, SettingsFor, is_search, IfSearch, CanSearchFirst, CanRecordFirst}
-use Rattle.run_stop.specs.Ends.{ComesBefore}
+use Rattle.run_outcome.specs.declared.causes.RecordingCause.{RecordingCause}
+use Rattle.run_outcome.specs.declared.stop.Stop.{Stop}
+use Rattle.run_outcome.specs.declared.stop.Stop.TheVariants.{Memory, ReadFault, Plan, Recording}
+use Rattle.run_outcome.specs.Runs.{Task, SettingsFor, is_search, IfSearch, CanSearchFirst, CanRecordFirst}
+use Rattle.run_outcome.specs.Ends.{ComesBefore}
 use Rattle.search_opening.specs.First.{AreFirsts, AreHeadersOf}
 use Rattle.search_opening.specs.Plans.{PlansFit, RefusesObservation}
 use Rattle.search_opening.specs.Recordings.{RecordingsFit, AreReadBack, RefusesRecordingOf}

@@ -6,10 +6,10 @@ use Rattle.search_model.specs.declared.search.Search.{Search}
 use Rattle.search_model.specs.Plan.{plan_refusal}
 use Rattle.search_engine.specs.Plan.{IsRefusedFirst}
 use Rattle.search_engine.specs.declared.fault.PlanFault.{PlanFault}
-use Rattle.run_stop.specs.declared.causes.PlanCause.{PlanCause}
-use Rattle.run_stop.specs.declared.stop.Stop.{Stop}
-use Rattle.run_stop.specs.declared.stop.Stop.TheVariants.{Plan}
-use Rattle.run_stop.specs.Runs.{IsPlanCause}
+use Rattle.run_outcome.specs.declared.causes.PlanCause.{PlanCause}
+use Rattle.run_outcome.specs.declared.stop.Stop.{Stop}
+use Rattle.run_outcome.specs.declared.stop.Stop.TheVariants.{Plan}
+use Rattle.run_outcome.specs.Runs.{IsPlanCause}
 
 -- the search of each observation fits
 abbrev pub PlansFit : Search → List (Option Observation) → Type 0

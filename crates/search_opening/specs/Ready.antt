@@ -7,7 +7,7 @@ use Rattle.search_model.specs.Search.{SettingsInRange}
 use Rattle.psr_base.specs.Told.{Told}
 use Rattle.disk_feeder.specs.declared.feeder.Feeder.{Feeder}
 use Rattle.disk_feeder.specs.Feeder.{HasPlan, FeederFaultless, headers_of}
-use Rattle.run_stop.specs.Runs.{Task, RecordingAlone, SettingsFor, IfSearch, MayBegin}
+use Rattle.run_outcome.specs.Runs.{Task, RecordingAlone, SettingsFor, IfSearch, MayBegin}
 use Rattle.search_opening.specs.First.{AreFirsts, AreHeadersOf, AreObserved}
 use Rattle.search_opening.specs.Offsets.{AreOffsetsOf}
 use Rattle.search_opening.specs.Space.{FeedsRings}

@@ -7,10 +7,10 @@ use Rattle.dada_model.specs.Observation.{Observation}
 use Rattle.stream_model.specs.Recorded.{record_refusal}
 use Rattle.dada_recorder.specs.Changes.{recording, RefusesRecording}
 use Rattle.dada_recorder.specs.declared.answers.RecordFault.{RecordFault}
-use Rattle.run_stop.specs.declared.causes.RecordingCause.{RecordingCause}
-use Rattle.run_stop.specs.declared.stop.Stop.{Stop}
-use Rattle.run_stop.specs.declared.stop.Stop.TheVariants.{Recording}
-use Rattle.run_stop.specs.Runs.{IsRecordingCause}
+use Rattle.run_outcome.specs.declared.causes.RecordingCause.{RecordingCause}
+use Rattle.run_outcome.specs.declared.stop.Stop.{Stop}
+use Rattle.run_outcome.specs.declared.stop.Stop.TheVariants.{Recording}
+use Rattle.run_outcome.specs.Runs.{IsRecordingCause}
 
 -- under the header, from the observation's OBS_OFFSET on, so many data bytes can be recorded in files of this size
 abbrev pub RecordingFits : ℕ → ℕ → HeaderText → Observation → Type 0

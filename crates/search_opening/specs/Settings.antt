@@ -6,7 +6,7 @@ use Rattle.search_model.specs.Search.{SettingsInRange}
 use Rattle.search_words.specs.Settings.{SettingsOf, RunInRange, with_search}
 use Rattle.stream_model.specs.Walk.{FileStream, stop_at}
 use Rattle.disk_feeder.specs.Plan.{AreTold, AreToldAt, IsFirstFile}
-use Rattle.run_stop.specs.Runs.{Task, RecordingAlone, SettingsFor, IfSearch, Says, MayBegin, CanBegin, stream_for}
+use Rattle.run_outcome.specs.Runs.{Task, RecordingAlone, SettingsFor, IfSearch, Says, MayBegin, CanBegin, stream_for}
 
 -- settings that a run can be driven by: every value lies in its range, and files that are recorded alone are recorded
 pub record CanBeDriven (task : Task) (s : SettingsFor task) : Type 0 where

@@ -11,7 +11,7 @@ use Rattle.dada_recorder.specs.declared.space.RecorderSpace.{RecorderSpace}
 use Rattle.dada_recorder.specs.Blocks.{RecordPlan, record_plan}
 use Rattle.search_engine.specs.Engine.{most_fed}
 use Rattle.session_readers.specs.declared.bank.Bank.{Bank}
-use Rattle.run_stop.specs.Runs.{Task, Searching, RecordingAlone, Alone, SettingsFor}
+use Rattle.run_outcome.specs.Runs.{Task, Searching, RecordingAlone, Alone, SettingsFor}
 use Rattle.search_opening.specs.Engines.{AreOpenedBanks}
 use Rattle.search_opening.specs.Rings.{run_shape}
 use Rattle.search_opening.specs.Space.{IsSpaceOf}

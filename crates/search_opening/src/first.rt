@@ -10,7 +10,7 @@ use arrayvec::ArrayVec;
 use disk_feeder::Feeder;
 use obs_plan::{ObsFault, Observation};
 use psr_base::Inputs;
-use run_stop::Stop;
+use run_outcome::Stop;
 use search_model::MOST_TRANSFERS;
 use std::alloc::Global;
 // A law: it does nothing when it runs, and the proofs use what it ensures.

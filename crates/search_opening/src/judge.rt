@@ -7,8 +7,8 @@ ghost use Rattle.disk_feeder.specs.Feeder.{headers_of};
 ghost use Rattle.search_opening.specs.First.{AreFirsts, AreHeadersOf, AreObserved};
 ghost use Rattle.search_opening.specs.Plans.{PlansFit, IsOfPlan, StopsSearch};
 ghost use Rattle.search_opening.specs.Recordings.{RecordingsFit, AreReadBack, IsOfRecording, StopsRecording};
-ghost use Rattle.run_stop.specs.declared.stop.Stop.TheVariants.{Memory};
-ghost use Rattle.run_stop.specs.Runs.{is_search, IfSearch, CanSearchFirst, CanRecordFirst, task_of, search_for, settings_for};
+ghost use Rattle.run_outcome.specs.declared.stop.Stop.TheVariants.{Memory};
+ghost use Rattle.run_outcome.specs.Runs.{is_search, IfSearch, CanSearchFirst, CanRecordFirst, task_of, search_for, settings_for};
 ghost use Rattle.search_opening.specs.Judged.{AreFit, IsRefused};
 
 use crate::plans::check_plans;
@@ -17,7 +17,7 @@ use dada_header::Header;
 use disk_feeder::Feeder;
 use obs_plan::Observation;
 use psr_base::Inputs;
-use run_stop::{Purpose, Stop};
+use run_outcome::{Purpose, Stop};
 use search_words::RunSettings;
 use std::alloc::Global;
 

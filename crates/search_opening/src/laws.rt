@@ -1,11 +1,11 @@
 // Laws of a run before its session and at its end, as functions that do nothing. A caller whose proof needs one calls
 // its function.
 ghost use Rattle.search_opening.specs.Early.{EarlyStopsStand};
-ghost use Rattle.search_opening.specs.Ended.{EarlyStopsAreSaid, EarlyStopsLeave, FirstsStayTold, SessionsFeedFiles, RecordingsAreSaid};
+ghost use Rattle.search_opening.specs.Ended.{CutsStayTold, EarlyStopsAreSaid, EarlyStopsLeave, FirstsStayTold, SessionsFeedFiles, RecordingsAreSaid};
 
 use psr_base::Inputs;
 // A law: it does nothing when it runs, and the proofs use what it ensures.
-use run_stop::words_say_once;
+use run_outcome::words_say_once;
 
 /// Law: what a stop before the session tells of the files holds as long as the known bytes of these files stay the
 /// same.
@@ -16,6 +16,12 @@ pub fn early_stops_stand()
 /// Law: the first files stay known as long as the known bytes of these files stay the same.
 pub fn firsts_stay_told()
     ensures { FirstsStayTold }
+{}
+
+/// Law: what was sealed at a fault of the inputs stays so as long as the known bytes of the files stay the same, for
+/// every plan over these files.
+pub fn cuts_stay_told()
+    ensures { CutsStayTold }
 {}
 
 /// Law: if a run stops by its settings before its session, it stops so for every command line that gives these

@@ -23,7 +23,7 @@ pub use begin::begin_run;
 pub use engines::open_banks;
 pub use first::begin_feed;
 pub use laws::{
-    early_stops_are_said, early_stops_stand, firsts_stay_told, recordings_are_said,
+    cuts_stay_told, early_stops_are_said, early_stops_stand, firsts_stay_told, recordings_are_said,
     sessions_feed_files,
 };
 pub use offsets::first_offsets;

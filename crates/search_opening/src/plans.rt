@@ -5,12 +5,12 @@ ghost use Rattle.search_model.specs.Search.{SettingsInRange};
 ghost use Rattle.search_model.specs.Plan.{plan_refusal};
 ghost use Rattle.search_engine.specs.Plan.{IsRefusedFirst};
 ghost use Rattle.stream_model.specs.Walk.{FileStream};
-ghost use Rattle.run_stop.specs.Runs.{CanSearchFirst};
+ghost use Rattle.run_outcome.specs.Runs.{CanSearchFirst};
 ghost use Rattle.search_opening.specs.First.{AreFirsts};
 ghost use Rattle.search_opening.specs.Plans.{PlansFit, RefusesPlan, IsOfPlan, StopsSearch};
 
 use obs_plan::Observation;
-use run_stop::Stop;
+use run_outcome::Stop;
 use search_engine::{PlanFault, check_plan};
 use search_model::Search;
 

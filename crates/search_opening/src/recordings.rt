@@ -5,7 +5,7 @@ ghost use Rattle.dada_model.specs.Observation.{Observation as Described};
 ghost use Rattle.disk_feeder.specs.Feeder.{headers_of};
 ghost use Rattle.dada_recorder.specs.Changes.{recording, RefusesRecording};
 ghost use Rattle.stream_model.specs.Walk.{FileStream};
-ghost use Rattle.run_stop.specs.Runs.{CanRecordFirst};
+ghost use Rattle.run_outcome.specs.Runs.{CanRecordFirst};
 ghost use Rattle.search_opening.specs.First.{AreObserved, AreFirsts, AreHeadersOf};
 ghost use Rattle.search_opening.specs.Recordings.{RecordingFits, RecordingsFit, AreReadBack, RefusesTransfer, IsOfRecording, StopsRecording};
 
@@ -14,7 +14,7 @@ use dada_recorder::{RecordFault, fits};
 use disk_feeder::Feeder;
 use obs_plan::Observation;
 use psr_base::Inputs;
-use run_stop::Stop;
+use run_outcome::Stop;
 
 // Checks that the data of a transfer can be recorded under its header, from the observation's OBS_OFFSET on.
 fn fits_one(

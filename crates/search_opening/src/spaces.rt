@@ -6,7 +6,7 @@ ghost use Rattle.search_words.specs.Settings.{RunSeen, RunInRange, with_search, 
 ghost use Rattle.dada_recorder.specs.Blocks.{PlanInRange};
 ghost use Rattle.search_opening.specs.Plans.{PlansFit};
 ghost use Rattle.search_opening.specs.Space.{hands_in};
-ghost use Rattle.run_stop.specs.Runs.{Task, SearchFor, IfSearch, task_of, search_for, settings_for};
+ghost use Rattle.run_outcome.specs.Runs.{Task, SearchFor, IfSearch, task_of, search_for, settings_for};
 ghost use Rattle.search_opening.specs.Spaces.{AreBanksOf, IsStageSpace, HasRecorderSpace, recorders, plan_for};
 
 use crate::engines::open_banks;
@@ -17,7 +17,7 @@ use dada_header::Header;
 use dada_recorder::RecorderSpace;
 use obs_plan::Observation;
 use psr_base::{Files, Inputs, Memory};
-use run_stop::Purpose;
+use run_outcome::Purpose;
 use search_model::MOST_SHARDS;
 use search_session::Bank;
 use search_words::RunSettings;

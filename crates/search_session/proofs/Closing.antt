@@ -202,7 +202,8 @@ module _ {I F : Type 0} (told : I → Told) (is_open is_calm : I → Type 0) (fa
       recorded_are fresh ends none = by_cases recorder all.recorder_works fresh
         where
           by_cases : (r : Option (Recorder F)) → RecorderWorks seen r (length banks) hands →
-              IfSome r (IsFreshRecorder files_open hdu) → RecordedAnswers files_open seen start.part r (length banks) end
+              IfSome r (IsFreshRecorder files_open hdu) →
+              RecordedAnswers files_open seen start.part r (length banks) end
           by_cases None works fresh = none (works_none seen (length banks) hands works)
           by_cases (Some part) works fresh =
               let has = works.2 in

@@ -68,6 +68,8 @@ of_calm p before told unopened is_calm at size blocks calm left = record {
   passed = left.passed;
   cut = left.cut;
   stood = left.stood;
+  past = left.past;
+  through = left.through;
   shut = λ is. left.shut (calm is);
   unopened = λ is. left.unopened (calm is);
 }

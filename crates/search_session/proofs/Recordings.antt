@@ -71,8 +71,8 @@ module _ {F : Type 0} (seen : F → FilesSeen) (files_open : F → Type 0) (hdu 
     (fresh : IsFreshRecorder files_open hdu part) where
   has_room : 1 ≤ (plan_of part).file_size
   has_room =
-      let running : IsRunning part.track.transfers [] [] =
-      subst (λ (e : Option RecordEnd). StandsAt part.track.transfers [] [] e) fresh.running fresh.stands in
+      let running : IsRunning part.space.transfers [] [] =
+      subst (λ (e : Option RecordEnd). StandsAt part.space.transfers [] [] e) fresh.running fresh.stands in
       running.plan.file_size.0
 
   nothing_recorded : (outset : Outset) → BeginsAt outset (seen part.files.now) →
@@ -121,7 +121,7 @@ module _ {F : Type 0} (seen : F → FilesSeen) (files_open : F → Type 0) (hdu 
       end_is =
           subst (λ (p : RecordPlan). EndIs p (has_header x.part) (recorded_headers x) (recorded_blocks x) (Some answer))
           same_plan
-          (subst (λ (e : Option RecordEnd). StandsAt x.part.track.transfers (recorded_headers x) (recorded_blocks x) e)
+          (subst (λ (e : Option RecordEnd). StandsAt x.part.space.transfers (recorded_headers x) (recorded_blocks x) e)
           part_end on.stands)
 
       pub files_are : (outset : Outset) → BeginsAt outset (seen part.files.now) →

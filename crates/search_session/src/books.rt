@@ -75,23 +75,15 @@ pub(crate) fn spectra_of(banks: &[Option<Bank>]) -> ArrayVec<u64, MOST_TRANSFERS
     spectra
 }
 
-// Takes the first engine out of its list.
-fn first_in(engines: &mut ArrayVec<Option<Engine>, MOST_TRANSFERS>) -> Option<Engine>
-    ensures { (slot : _) (rest : _) → engines.old.items ≡ slot ∷ rest
-        → (result ≡ slot) × (engines.new.items ≡ rest) }
-{
-    match engines.pop_at(0) {
-        Some(slot) => slot,
-        None => None,
-    }
-}
-
 // Takes the first engine out of a bank.
 fn first_of(bank: &mut Bank) -> Option<Engine>
     ensures { (slot : _) (rest : _) → engines_of bank.old ≡ slot ∷ rest
         → (result ≡ slot) × (engines_of bank.new ≡ rest) }
 {
-    first_in(&mut bank.engines)
+    match bank.engines.pop_at(0) {
+        Some(slot) => slot,
+        None => None,
+    }
 }
 
 // The book of an engine.

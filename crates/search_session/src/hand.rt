@@ -26,13 +26,11 @@ const RECORDER: u32 = 8;
 /// looks take longer than a turn of a shard should.
 const LOOKS: u32 = 100_000;
 
-/// After this many looks a hand sleeps before each further one. Until then a look takes about a microsecond: together
-/// longer than one of four shards took for a block of half a million bytes. So hands that wait for each other seldom
-/// sleep, and those that wait for a disk do.
-const LOOKS_AWAKE: u32 = 1000;
+/// After this many looks a hand sleeps before each further one. Until then a look takes about a microsecond, and the
+/// hand keeps its core, which another hand may want.
+const LOOKS_AWAKE: u32 = 50;
 
-/// How many microseconds a hand sleeps before such a look, and the system adds some: a small part of the time that it
-/// waited before.
+/// How many microseconds a hand sleeps before such a look. The system adds some 50.
 const NAP: u64 = 20;
 
 // Rests before a look of a hand that waits.

@@ -84,7 +84,7 @@ impl<'a> LoneSession<'a> {
             return true;
         }
         gate.pass(actor, self.shard.turns);
-        self.feed.go_on(inputs, &self.hdu);
+        self.feed.turn(inputs, &self.hdu);
         turn_shard(&mut self.shard, &self.hdu);
         self.has_ended()
     }

@@ -1,6 +1,4 @@
 //! A feeder that takes turns and rests between them.
-ghost use Rattle.std.specs.Prelude.{◌≡◌, None};
-
 use dada_hdu::{Hdu, HduWriter};
 use disk_feeder::{FeedEnd, FeedTurn, FeederSpace};
 use psr_base::Inputs;
@@ -19,24 +17,8 @@ impl<'a> RestingFeed<'a> {
     ghost use Rattle.search_session.specs.Feeds.{FeedOn, FeedMoved};
     ghost use Rattle.search_session.specs.Lone.{feed_over};
 
-    /// Takes one turn: it seals one block, or finds the ring full and pauses.
-    fn turn<I: Inputs>(&mut self, inputs: &mut I, hdu: &Hdu)
-        requires on { FeedOn I.told I.is_open hdu.now (feed_over inputs.old self.old) }
-        requires running { self.old.end ≡ None }
-        ensures on { FeedOn I.told I.is_open hdu.now (feed_over inputs.new self.new) }
-        ensures moved { FeedMoved I.told I.is_calm I.faults 1 (feed_over inputs.old self.old)
-            (feed_over inputs.new self.new) }
-    {
-        self.turns = self.turns.saturating_add(1);
-        match self.part.turn(inputs, hdu, &mut self.pass) {
-            FeedTurn::Moved => {}
-            FeedTurn::Waiting { .. } => pause(),
-            FeedTurn::Ended(end) => self.end = Some(end),
-        }
-    }
-
-    /// Takes one turn, unless the feeder ended.
-    pub(crate) fn go_on<I: Inputs>(&mut self, inputs: &mut I, hdu: &Hdu)
+    /// Takes one turn, unless the feeder ended: it seals one block, or finds the ring full and pauses.
+    pub(crate) fn turn<I: Inputs>(&mut self, inputs: &mut I, hdu: &Hdu)
         requires on { FeedOn I.told I.is_open hdu.now (feed_over inputs.old self.old) }
         ensures on { FeedOn I.told I.is_open hdu.now (feed_over inputs.new self.new) }
         ensures moved { FeedMoved I.told I.is_calm I.faults 1 (feed_over inputs.old self.old)
@@ -45,6 +27,11 @@ impl<'a> RestingFeed<'a> {
         if self.end.is_some() {
             return;
         }
-        self.turn(inputs, hdu);
+        self.turns = self.turns.saturating_add(1);
+        match self.part.turn(inputs, hdu, &mut self.pass) {
+            FeedTurn::Moved => {}
+            FeedTurn::Waiting { .. } => pause(),
+            FeedTurn::Ended(end) => self.end = Some(end),
+        }
     }
 }

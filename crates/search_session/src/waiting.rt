@@ -14,10 +14,12 @@ const DONE: u64 = u64::MAX;
 const UNBEGUN: u64 = u64::MAX - 1;
 
 /// Each time after this many looks a hand that waits for one that has not begun asks whether one more thread could be
-/// had. If none can be, that hand has no thread of its own, and begins only when another one is done.
-const LOOKS_BEFORE_ASKING: u32 = 1000;
+/// had: after a millisecond, and then every 4 or 5. If none can be, that hand has no thread of its own, and begins only
+/// when another one is done.
+const LOOKS_BEFORE_ASKING: u32 = 64;
 
-/// After this many looks such a hand is taken for absent, whatever the answer is: what kept it from a thread is gone.
+/// After this many looks, some 0.7 seconds, such a hand is taken for absent, whatever the answer is: what kept it from
+/// a thread is gone.
 const LOOKS_FOR_UNBEGUN: u32 = 10_000;
 
 /// This many looks in vain after a moment show that there was nothing to find at that moment: the first of them may

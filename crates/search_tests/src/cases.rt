@@ -1,6 +1,7 @@
 // Runs as the lines of a table give them, and how they must end.
 use crate::files::{NO_FILE, fields_of, inputs_for, push_data, push_lines};
 use crate::running::{ENOUGH, Ended, Limits, NEVER, Program, run_past, words_of};
+use dada_recorder::RecordEnd;
 use psr_base::{Inputs, MemFiles, MemInputs};
 use search_session::NoGate;
 use std::alloc::Global;
@@ -12,8 +13,8 @@ use std::time::Clock;
 
 /// A run on each line: its arguments after those of the whole table; the numbers of the calls that fail, and how much
 /// room there is, if it is little; the status; the output and the line on the notes, with `;` for the end of a line;
-/// the files that are made, each with its data; and, of some, how many calls of the inputs were made, and how many
-/// blocks went through.
+/// the files that are made, each with its data; and, of some, how many calls of the inputs were made, how many blocks
+/// went through, and how the recorder ended.
 #[derive(Clone, Copy)]
 pub(crate) struct Table {
     pub(crate) program: Program,
@@ -32,6 +33,20 @@ struct Case {
     files: &'static str,
     calls: Option<u64>,
     blocks: Option<u64>,
+    recorded: Option<Option<RecordEnd>>,
+}
+
+// How a recorder ended, as `whole 2` or `cut 1` with the number of its files, or as `fault` or `none`.
+fn end_of(text: &str) -> Result<Option<RecordEnd>, Fail> {
+    let (word, number) = text.split_once(' ').unwrap_or((text, "0"));
+    let files = number.parse::<u32>()?;
+    match word {
+        "whole" => Ok(Some(RecordEnd::Whole { files })),
+        "cut" => Ok(Some(RecordEnd::Cut { files })),
+        "fault" => Ok(Some(RecordEnd::FileFault)),
+        "none" => Ok(None),
+        _ => Err("an end of another name".into()),
+    }
 }
 
 impl Case {
@@ -46,17 +61,22 @@ impl Case {
             files,
             calls: None,
             blocks: None,
+            recorded: None,
         };
         case.set_all(limits)?;
         case.set_all(counts)?;
         Ok(case)
     }
 
-    // Sets what is named by each word of `input 3, out_room 10`.
-    fn set_all(&mut self, numbers: &'static str) -> Result<(), Fail> {
-        for named in numbers.split(',') {
-            if let Some((name, number)) = named.trim().split_once(' ') {
-                self.set(name, number.parse::<u32>()?)?;
+    // Sets what is named by each word of `input 3, out_room 10, recorder cut 1`.
+    fn set_all(&mut self, values: &'static str) -> Result<(), Fail> {
+        for named in values.split(',') {
+            if let Some((name, value)) = named.trim().split_once(' ') {
+                if name == "recorder" {
+                    self.recorded = Some(end_of(value)?);
+                } else {
+                    self.set(name, value.parse::<u32>()?)?;
+                }
             }
         }
         Ok(())
@@ -86,7 +106,8 @@ impl Case {
                 && has_lines(alloc, ended.text.as_str(), self.text)?
                 && has_lines(alloc, ended.notes.as_str(), self.notes)?
                 && has_files(alloc, &ended.made, self.files)?
-                && self.blocks.unwrap_or(ended.blocks) == ended.blocks,
+                && self.blocks.unwrap_or(ended.blocks) == ended.blocks
+                && self.recorded.unwrap_or(ended.recorded) == ended.recorded,
         )
     }
 }
@@ -177,12 +198,13 @@ fn check<R: Threads + Wait + Clock + Sync + Abort>(
     let calls = calls_of(&mut inputs);
     assert!(rt;
         case.is_met(alloc, &ended)? && case.calls.unwrap_or(calls) == calls,
-        "{line}: {}, {}{}{} files, {calls} calls, {} blocks",
+        "{line}: {}, {}{}{} files, {calls} calls, {} blocks, {:?}",
         ended.status,
         ended.text,
         ended.notes,
         ended.made.count(),
-        ended.blocks
+        ended.blocks,
+        ended.recorded
     );
     Ok(())
 }

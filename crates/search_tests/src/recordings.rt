@@ -6,7 +6,7 @@ const SMALL: Table = Table {
     program: Record,
     words: "--file-size 4 --max-bytes 1000 --size 512",
     runs: "
-pulse | | 0 | | | first 10 0 0 20, second 0 0 | calls 4, blocks 1
+pulse | | 0 | | | first 10 0 0 20, second 0 0 | calls 4, blocks 1, recorder whole 2
 ragged | | 0 | | | first 10 0 0 20, second 0
 empty | | 0 | | | first
 full | | 0 | | | first 10 0 0 20, second 0 0
@@ -14,9 +14,10 @@ overfull | | 4 | | plan refused: Overfull 4096 4096; | | calls 2, blocks 0
 pulse | input 0 | 6 | | read fault; | | blocks 0
 pulse | input 1 | 6 | | read fault; | | blocks 0
 pulse missing | | 6 | | read fault; | first
-front far | | 7 | | file 1 has OBS_OFFSET 12 where 4 was expected; | first | blocks 1
+front far | | 7 | | file 1 has OBS_OFFSET 12 where 4 was expected; | first | blocks 1, recorder cut 1
+front far | file 0 | 7 | | file 1 has OBS_OFFSET 12 where 4 was expected; | | blocks 1, recorder fault
 front far | note 0 | 7 | | | first
-pulse | file 0 | 11 | | record fault;
+pulse | file 0 | 11 | | record fault; | | recorder fault
 pulse | file 0, note 0 | 11
 pulse | file 1 | 11 | | record fault; | first -
 pulse | file 2 | 11 | | record fault; | first

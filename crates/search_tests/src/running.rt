@@ -1,8 +1,9 @@
 // Runs over objects in memory, and what they leave.
+use dada_recorder::RecordEnd;
 use psr_base::{MemFiles, MemInputs, MemSink};
 use psr_record::run_record;
 use psr_search::run_in_memory;
-use run_stop::Ran;
+use run_outcome::Ran;
 use search_session::Gate;
 use std::alloc::Global;
 use std::sync::Wait;
@@ -54,6 +55,8 @@ pub(crate) struct Ended {
     pub(crate) made: MemFiles,
     /// How many blocks went through its data ring, or none if it had no ring.
     pub(crate) blocks: u64,
+    /// How its recorder ended, or none if it had no recorder.
+    pub(crate) recorded: Option<RecordEnd>,
 }
 
 fn push_words(alloc: Global, words: &mut Vec<String>, line: &str) -> Result<(), Fail> {
@@ -92,7 +95,11 @@ pub(crate) fn run_past<G: Gate + Sync, R: Threads + Wait + Clock + Sync>(
     let mut made = MemFiles::open(alloc, limits.files, limits.file_room, &[limits.file])?;
     let mut out = MemSink::open(alloc, limits.out_room, &[limits.out])?;
     let mut notes = MemSink::open(alloc, limits.note_room, &[limits.note])?;
-    let Ran { status, blocks } = match program {
+    let Ran {
+        status,
+        blocks,
+        recorded,
+    } = match program {
         Program::Search => run_in_memory(
             rt, alloc, words, inputs, &mut made, &mut out, &mut notes, gate,
         ),
@@ -107,5 +114,6 @@ pub(crate) fn run_past<G: Gate + Sync, R: Threads + Wait + Clock + Sync>(
             Some(blocks) => blocks.sealed(),
             None => 0,
         },
+        recorded,
     })
 }

@@ -45,7 +45,7 @@ const PULSES: Table = Table {
     program: Search,
     words: "--mean 1 --sd 2 --snr 7 --max-delay 1 --widths 1 --size 512",
     runs: "
-pulse | | 0 | PULSE 1 1 0.104 1 30 3;END 1 0 3; | | | calls 4, blocks 1
+pulse | | 0 | PULSE 1 1 0.104 1 30 3;END 1 0 3; | | | calls 4, blocks 1, recorder none
 pulse --min-delay 1 | | 0 | PULSE 1 1 0.104 1 30 3;END 1 0 3;
 pulse --min-delay 5 | | 2 | | option --min-delay refused; | | calls 0
 pulse --shards 3 | | 4 | | plan refused: TooManyShards 3 2; | | calls 2, blocks 0
@@ -204,17 +204,19 @@ const RECORDED: Table = Table {
     program: Search,
     words: "--mean 1 --sd 2 --snr 7 --max-delay 1 --record --file-size 4 --max-bytes 1000 --size 512",
     runs: "
-pulse --widths 1 | | 0 | PULSE 1 1 0.104 1 30 3;END 1 0 3; | | first 10 0 0 20, second 0 0 | calls 4, blocks 1
+pulse --widths 1 | | 0 | PULSE 1 1 0.104 1 30 3;END 1 0 3; | | first 10 0 0 20, second 0 0 \
+    | calls 4, blocks 1, recorder whole 2
 ragged --widths 1 | | 0 | PULSE 1 1 0.104 1 30 3;END 1 0 2; | | first 10 0 0 20, second 0
 empty --widths 1 | | 0 | END 0 0 0; | | first
-pulse --widths 1 --max-candidates 0 | | 9 | | 1 candidates, limit 0; | first 10 0 0 20, second 0 0
-pulse --widths 2 --max-candidates 1 | file 0 | 9 | | 2 candidates, limit 1; | | blocks 1
+pulse --widths 1 --max-candidates 0 | | 9 | | 1 candidates, limit 0; | first 10 0 0 20, second 0 0 \
+    | recorder whole 2
+pulse --widths 2 --max-candidates 1 | file 0 | 9 | | 2 candidates, limit 1; | | blocks 1, recorder fault
 pulse --widths 1 | input 0 | 6 | | read fault;
-pulse --widths 1 | input 1 | 6 | | read fault;
+pulse --widths 1 | input 1 | 6 | | read fault; | | recorder none
 pulse --widths 1 | out 0 | 10 | | sink fault; | first 10 0 0 20, second 0 0
 pulse --widths 1 | out_room 10 | 10 | | sink fault; | first 10 0 0 20, second 0 0
-pulse --widths 1 | file 0, out 0 | 10 | | sink fault;
-pulse --widths 1 | file 0 | 11 | PULSE 1 1 0.104 1 30 3;END 1 0 3; | record fault;
+pulse --widths 1 | file 0, out 0 | 10 | | sink fault; | | recorder fault
+pulse --widths 1 | file 0 | 11 | PULSE 1 1 0.104 1 30 3;END 1 0 3; | record fault; | | recorder fault
 pulse --widths 1 | file 0, note 0 | 11 | PULSE 1 1 0.104 1 30 3;END 1 0 3;
 pulse --widths 1 | file 1 | 11 | PULSE 1 1 0.104 1 30 3;END 1 0 3; | record fault; | first -
 pulse --widths 1 | file 2 | 11 | PULSE 1 1 0.104 1 30 3;END 1 0 3; | record fault; | first
@@ -235,7 +237,8 @@ no_time --widths 1 | | 4 | | plan refused: NoUtc; | | calls 2, blocks 0
 bad_time --widths 1 | | 4 | | plan refused: BadUtc;
 overfull --widths 1 | | 4 | | plan refused: Overfull 4096 4096;
 full --widths 1 | | 0 | PULSE 1 1 0.104 1 30 3;END 1 0 3; | | first 10 0 0 20, second 0 0
-pulse missing --widths 1 | | 6 | | read fault; | first
+pulse missing --widths 1 | | 6 | | read fault; | first | recorder cut 1
+pulse missing --widths 1 | file 0 | 6 | | read fault; | | recorder fault
 ",
 };
 
@@ -264,7 +267,10 @@ pulse --widths 1 --hands 1 --size 1 --buffers 2 | file 0 | 11 | PULSE 1 1 0.104 
     | record fault; | | blocks 7
 pulse --widths 1 --hands 3 --size 1 --buffers 2 | file 0 | 11 | PULSE 1 1 0.104 1 30 3;END 1 0 3; \
     | record fault; | | blocks 7
-pulse shorter --widths 1 --size 4 | | 3 | | header of file 1 refused: Short 100; | first 10 0 0 20
+pulse shorter --widths 1 --size 4 | | 3 | | header of file 1 refused: Short 100; | first 10 0 0 20 | recorder cut 1
+pulse shorter --widths 1 --size 4 | file 0 | 3 | | header of file 1 refused: Short 100; | | recorder fault
+pulse shorter --widths 1 --size 4 | file 3 | 3 | | header of file 1 refused: Short 100; | first 10 0 0 20 \
+    | recorder fault
 front far --widths 1 --size 3 | | 7 | | file 1 has OBS_OFFSET 12 where 4 was expected; | first 10 0 0
 ",
 };
@@ -273,7 +279,8 @@ const RECORDED_CUT: Table = Table {
     program: Search,
     words: "--mean 1 --sd 2 --snr 7 --max-delay 1 --widths 1 --record --file-size 4 --max-bytes 5",
     runs: "
-pulse --size 2 | | 8 | | more than 5 bytes; | first 10 0 0 20 | blocks 3
+pulse --size 2 | | 8 | | more than 5 bytes; | first 10 0 0 20 | blocks 3, recorder cut 1
+pulse --size 2 | file 0 | 8 | | more than 5 bytes; | | recorder fault
 pulse --size 6 | | 8 | | more than 5 bytes; | first | blocks 1
 ",
 };

@@ -1,7 +1,8 @@
 -- The engines of a shard, and a block that it cleared.
-use Rattle.std.proofs.Common.{◌≡◌, ◌≢◌, ℕ, zero, suc, ◌+◌, ◌-◌, ◌*◌, ◌<◌, ◌≤◌, Bool, true, false, List, [], ◌∷◌, ◌++◌, length, length-append, Option, refl, sym, ap, ◌∙◌, subst, arith}
+use Rattle.std.proofs.Common.{◌≡◌, ◌≢◌, ℕ, zero, suc, ◌+◌, ◌-◌, ◌*◌, ◌<◌, ◌≤◌, Bool, true, false, List, [], ◌∷◌, ◌++◌, length, length-append, slice_set, Option, Some, refl, sym, ap, ◌∙◌, subst, arith}
 use Rattle.std.specs.Prelude.{if◌then◌else◌, nat_lt}
-use Rattle.std.proofs.lemmas.List.{append-nil}
+use Rattle.std.proofs.lemmas.List.{append-nil, length-set}
+use Rattle.std.proofs.lemmas.Option.{slice_get_within}
 use Rattle.std.proofs.lemmas.Bool.Decides.{nat_tests}
 use mathlib.Core.Logic.{dite}
 use native.Mathlib.Decide.{ℕ_discrete, dec_le}
@@ -10,8 +11,9 @@ use Rattle.ring_blocks.specs.declared.Entry.{Entry}
 use Rattle.ring_blocks.specs.declared.Mark.{Mark}
 use Rattle.stream_model.specs.Blocks.{is_end, ended_transfers, transfer_bytes}
 use Rattle.stream_model.specs.BlockLaws.{EndsAreCounted, EntriesAreOfTransfers}
-use Rattle.search_engine.specs.Engine.{EngineState, StandsForPart}
+use Rattle.search_engine.specs.Engine.{EngineState, SameShard, StandsForPart, scope_of}
 use Rattle.session_readers.specs.Banks.{HasEngine, Stands, WasFed, WasFedAt, CanFeedAt}
+use Rattle.session_readers.proofs.Rows.{get_set_same, get_set_other}
 use Rattle.session_readers.specs.Shards.{StandsAt, IsEngineAt, AreEnginesAt, EngineFollows, EnginesFollow}
 
 -- ---- one block more
@@ -182,12 +184,31 @@ follow_still xs ys engines is = record {
 
 -- ---- written in place
 
--- the same lists of engines
-pub fed_as : (old old' new new' : List (Option EngineState)) (k : ℕ) (bytes : List ℕ) (b : Bool) →
-    old ≡ old' → new ≡ new' → WasFedAt old k bytes b new → WasFedAt old' k bytes b new'
-fed_as old old' new new' k bytes b is_old is_new fed =
-    subst (λ (l : List (Option EngineState)). WasFedAt l k bytes b new') is_old
-    (subst (λ (l : List (Option EngineState)). WasFedAt old k bytes b l) is_new fed)
+-- the engine of a transfer was fed
+pub fed_at : (old : List (Option EngineState)) (k : ℕ) (e f : EngineState) (bytes : List ℕ) (b : Bool) →
+    HasEngine old k e → WasFed e bytes b f → WasFedAt old k bytes b (slice_set old k (Some f))
+fed_at old k e f bytes b there fed = record {
+  count = length-set old k (Some f);
+  others = λ j other. get_set_other old k j (Some f) other;
+  this = λ x at.
+      let same : e ≡ x = cc in (
+        f,
+        get_set_same old k (Some f) (slice_get_within old k (Some e) there),
+        subst (λ (y : EngineState). WasFed y bytes b f) same fed,
+      );
+}
+
+-- it was fed no bytes
+pub fed_nothing : (e f : EngineState) (b : Bool) → SameShard f e → scope_of f ≡ scope_of e → f.fed ≡ e.fed →
+    f.has_ended ≡ b → ((o : Observation) (before : List ℕ) → StandsForPart o before e → Stands b o before f) →
+    WasFed e [] b f
+fed_nothing e f b same scope fed ended stands = record {
+  same = same;
+  scope = scope;
+  fed = omega arith;
+  ended = ended;
+  stands = λ o before was. subst (λ (l : List ℕ). Stands b o l f) (sym (append-nil before)) (stands o before was);
+}
 
 -- ---- fed first, and ended then
 

@@ -1,11 +1,9 @@
--- Lists of which one element is written, or all are.
-use Rattle.std.proofs.Common.{◌≡◌, ◌≢◌, ℕ, zero, suc, ◌<◌, ◌≤◌, List, [], ◌∷◌, ◌++◌, length, take, drop, slice_set, Some, slice_get, refl, ap, ◌∙◌, arith}
+-- A list of which one element is written.
+use Rattle.std.proofs.Common.{◌≡◌, ◌≢◌, ℕ, zero, suc, ◌<◌, List, [], ◌∷◌, length, slice_set, Some, slice_get, refl, ap, ◌∙◌, arith}
 use Rattle.std.proofs.lemmas.Option.{slice_get-get_or}
-use Rattle.std.proofs.lemmas.List.{length-set, get_or-set_same, take_all, take-append-le}
+use Rattle.std.proofs.lemmas.List.{length-set, get_or-set_same}
 
 module _ {A : Type 0} where
-  -- ---- an element is written
-
   pub get_set_same : (xs : List A) (k : ℕ) (b : A) → k < length xs → slice_get (slice_set xs k b) k ≡ Some b
   get_set_same xs k b near =
       let long = length-set xs k b in
@@ -18,9 +16,3 @@ module _ {A : Type 0} where
   get_set_other (x ∷ xs) zero (suc j) b other = refl
   get_set_other (x ∷ xs) (suc k) zero b other = refl
   get_set_other (x ∷ xs) (suc k) (suc j) b other = get_set_other xs k j b (λ same. other (ap suc same))
-
-  -- all elements are written
-  pub all_written : (n : ℕ) (xs ws : List A) → length ws ≡ n → take n (ws ++ drop (length ws) xs) ≡ ws
-  all_written n xs ws long =
-      let most : n ≤ length ws = omega arith in
-      take-append-le n ws (drop (length ws) xs) most ∙ take_all n ws (omega arith)

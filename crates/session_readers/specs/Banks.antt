@@ -1,11 +1,15 @@
 -- What the engines of a shard were fed.
 -- Source: this project's choice.
 use Rattle.std.specs.Prelude.{◌≡◌, ◌≢◌, ℕ, ◌+◌, ◌≤◌, Bool, true, false, List, ◌++◌, length, slice_get, Option, Some}
+use Rattle.std.specs.Borrow.{Lends, MutBor, Fml}
+use Rattle.arrayvec.specs.ArrayVec.{with_item}
 use Rattle.dada_model.specs.Observation.{Observation}
 use Rattle.ring_blocks.specs.declared.Entry.{Entry}
 use Rattle.search_engine.specs.Engine.{EngineState, StandsForPart, HasFoundPart, HasSearched, SameShard, scope_of, most_fed}
 use Rattle.search_engine.specs.Scope.{whole_scope}
+use Rattle.search_engine.specs.contracts.engine.Engine.{the_row as engine_row}
 use Rattle.session_readers.specs.declared.bank.Bank.{Bank}
+use Rattle.session_readers.specs.contracts.bank.Bank.{the_row}
 
 -- the engines of a bank, by transfer
 abbrev pub engines_of : Bank → List (Option EngineState)
@@ -14,6 +18,16 @@ engines_of bank = bank.engines.value.items
 -- the engine of a transfer
 abbrev pub HasEngine : List (Option EngineState) → ℕ → EngineState → Type 0
 HasEngine engines transfer e = slice_get engines transfer ≡ Some (Some e)
+
+-- the bank with this engine of a transfer
+abbrev pub with_engine : Bank → ℕ → EngineState → Bank
+with_engine bank transfer e = record bank {
+  engines = record bank.engines { value = with_item bank.engines.value transfer (Some e) };
+}
+
+-- once the borrow r ends, the engine of a transfer is the one that r shows last
+abbrev pub lends_engine : MutBor Bank → ℕ → MutBor EngineState → Fml
+lends_engine bank transfer r = Lends the_row engine_row bank r (with_engine bank.now transfer)
 
 -- an engine that has ended found what it searches of these data bytes; where that is all, it has searched them
 pub record HasEnded (o : Observation) (bytes : List ℕ) (e : EngineState) : Type 0 where

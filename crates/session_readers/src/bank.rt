@@ -1,8 +1,8 @@
 //! The engines of a shard.
-ghost use Rattle.std.specs.Prelude.{◌≡◌, ◌+◌, ◌≤◌, false, Some, [], length, take};
-ghost use Rattle.stream_model.specs.Blocks.{is_end};
-ghost use Rattle.search_engine.specs.Engine.{EngineState, most_fed};
-ghost use Rattle.session_readers.specs.Banks.{CanFeedAt, WasFed, WasFedAt, engines_of};
+ghost use Rattle.std.specs.Borrow.{sem};
+ghost use Rattle.std.specs.Prelude.{◌≡◌, ◌≤◌, true, false, [], length};
+ghost use Rattle.search_engine.specs.Engine.{EngineState};
+ghost use Rattle.session_readers.specs.Banks.{HasEngine, CanFeedAt, WasFedAt, engines_of, lends_engine};
 
 use arrayvec::ArrayVec;
 use dada_hdu::{BlockTaker, Mark};
@@ -16,72 +16,33 @@ pub struct Bank {
     pub engines: Box<ArrayVec<Option<Engine>, MOST_TRANSFERS>>,
 }
 
-// Feeds the engine of a slot, and ends it if these bytes are the last. A chunk that was full before is searched first;
-// one that becomes full at the end of these bytes is left.
-fn feed_slot(slot: &mut Option<Engine>, bytes: &[u8], is_last: bool)
-    requires { (e : EngineState) × (slot.old ≡ Some e) × (e.has_ended ≡ false)
-        × (e.fed + length bytes.now ≤ most_fed) }
-    ensures { (e : EngineState) → slot.old ≡ Some e
-        → (f : EngineState) × (slot.new ≡ Some f) × WasFed e bytes.now is_last f }
-{
-    let Some(engine) = slot else { unreachable!() };
-    engine.search_full();
-    engine.unpack(bytes);
-    if is_last {
-        engine.end();
-    }
-}
-
-// Feeds the engine of a transfer, and ends it if these bytes are the last.
-fn feed_engine(engines: &mut [Option<Engine>], transfer: usize, bytes: &[u8], is_last: bool)
-    requires { CanFeedAt engines.old transfer bytes.now }
-    ensures { WasFedAt engines.old transfer bytes.now is_last engines.new }
-{
-    feed_slot(&mut engines[transfer], bytes, is_last);
-}
-
-// Feeds the engine of a transfer in a list of engines, and ends it if these bytes are the last.
-fn feed_in(
-    engines: &mut ArrayVec<Option<Engine>, MOST_TRANSFERS>,
-    transfer: usize,
-    bytes: &[u8],
-    is_last: bool,
-)
-    requires { CanFeedAt engines.old.items transfer bytes.now }
-    ensures { WasFedAt engines.old.items transfer bytes.now is_last engines.new.items }
-{
-    feed_engine(engines.as_mut_slice(), transfer, bytes, is_last);
-}
-
-// Whether a block with this mark is the last of its transfer.
-fn ends_transfer(mark: Mark) -> bool
-    ensures { result ≡ is_end mark }
-{
-    match mark {
-        Mark::End => true,
-        Mark::More | Mark::Cut => false,
-    }
-}
-
 impl Bank {
-    // Feeds the engine of a transfer, and ends it if these bytes are the last. A chunk that was full before is searched
-    // first; one that becomes full at the end of these bytes is left.
-    fn feed(&mut self, transfer: usize, bytes: &[u8], is_last: bool)
-        requires { CanFeedAt (engines_of self.old) transfer bytes.now }
-        ensures { WasFedAt (engines_of self.old) transfer bytes.now is_last
-            (engines_of self.new) }
+    // The engine of a transfer.
+    fn engine(&mut self, transfer: usize) -> &mut Engine
+        requires { (e : EngineState) × HasEngine (engines_of self.old) transfer e }
+        ensures* lends { sem 𝓛 (lends_engine self.entry transfer result) }
+        ensures value { HasEngine (engines_of self.old) transfer result.now }
     {
-        feed_in(&mut self.engines, transfer, bytes, is_last);
+        match self.engines.get_mut(transfer) {
+            Some(Some(engine)) => engine,
+            Some(None) | None => unreachable!(),
+        }
     }
 
-    /// Feeds the engine of a transfer the first `used` bytes of a space. It does not end.
-    pub(crate) fn feed_front(&mut self, transfer: usize, space: &[u8], used: usize)
-        requires within { used ≤ length space.now }
-        requires ready { CanFeedAt (engines_of self.old) transfer (take used space.now) }
-        ensures { WasFedAt (engines_of self.old) transfer (take used space.now) false
-            (engines_of self.new) }
+    /// Searches the chunk of a transfer's engine, if it is full.
+    pub(crate) fn search_full(&mut self, transfer: usize)
+        requires { CanFeedAt (engines_of self.old) transfer [] }
+        ensures { WasFedAt (engines_of self.old) transfer [] false (engines_of self.new) }
     {
-        self.feed(transfer, &space[..used], false);
+        self.engine(transfer).search_full();
+    }
+
+    /// Ends the engine of a transfer: it searches what is left.
+    pub(crate) fn end(&mut self, transfer: usize)
+        requires { CanFeedAt (engines_of self.old) transfer [] }
+        ensures { WasFedAt (engines_of self.old) transfer [] true (engines_of self.new) }
+    {
+        self.engine(transfer).end();
     }
 
     /// The number of engines, at most eight.
@@ -100,20 +61,11 @@ impl Bank {
             Some(None) | None => 0,
         }
     }
-
-    /// Does what comes after a block that the engine of a transfer was fed: searches the chunk if it is full, and ends
-    /// the engine if the block, which has this mark, was the transfer's last.
-    pub(crate) fn end_after(&mut self, transfer: usize, mark: Mark)
-        requires { CanFeedAt (engines_of self.old) transfer [] }
-        ensures { WasFedAt (engines_of self.old) transfer [] (is_end mark)
-            (engines_of self.new) }
-    {
-        self.feed(transfer, &[], ends_transfer(mark));
-    }
 }
 
-/// Feeds the engine of transfer `part` from a block where it lies in the ring. The engine does not end, and leaves a
-/// chunk that becomes full at the end of the block: the block is given back before that chunk and folds are searched.
+/// Feeds a block to the engine of transfer `part`, from where it lies in the ring or from a copy. The engine does not
+/// end, and leaves a chunk that becomes full at the end of the block: a block that lies in the ring is given back before
+/// that chunk and folds are searched.
 impl BlockTaker for Bank {
     ghost use Rattle.session_readers.specs.Banks.{CanFeed, WasFedBlock};
 
@@ -122,6 +74,6 @@ impl BlockTaker for Bank {
     ghost took = { WasFedBlock };
 
     fn take(&mut self, part: usize, bytes: &[u8], _mark: Mark) {
-        self.feed(part, bytes, false);
+        self.engine(part).unpack(bytes);
     }
 }

@@ -9,7 +9,7 @@ ghost use Rattle.session_readers.specs.Shards.{HasMissed, HasFedBlock, IsHereOrR
 
 use crate::bank::Bank;
 use crate::pausing::pause;
-use dada_hdu::{Hdu, HduEnded, HduReader, Taken};
+use dada_hdu::{BlockTaker, Hdu, HduEnded, HduReader, Taken};
 
 // Reads the next header and clears it. If there is none, it pauses.
 pub(crate) fn read_header(hdu: &Hdu, reader: &mut HduReader, space: &mut [u8])
@@ -80,7 +80,7 @@ fn copy_block(
     match hdu.read(reader, space) {
         Ok(taken) => {
             hdu.clear(reader);
-            bank.feed_front(transfer, space, taken.used as usize);
+            bank.take(transfer, &space[..taken.used as usize], taken.mark);
             Some(taken)
         }
         Err(_stop) => {

@@ -1,6 +1,7 @@
 //! A shard: the engines of a part of the search, and the reader that feeds them.
-ghost use Rattle.std.specs.Prelude.{◌≡◌, false, true, if◌then◌else◌, nat_le, ◌||◌};
+ghost use Rattle.std.specs.Prelude.{◌≡◌, false, true, if◌then◌else◌, nat_le, ◌||◌, []};
 ghost use Rattle.stream_model.specs.Blocks.{is_end, is_cut};
+ghost use Rattle.session_readers.specs.Banks.{CanFeedAt, WasFedAt, engines_of};
 
 use crate::bank::Bank;
 use crate::reading::{feed_block, has_next, read_header, retire};
@@ -23,6 +24,18 @@ pub struct ShardActor {
     pub done: u32,
     /// Whether no block comes after those that it cleared.
     pub ended: bool,
+}
+
+// Does what comes after a block with this mark, which the engine of a transfer was fed: ends the engine if that was its
+// last block, otherwise searches its chunk if it is full.
+fn end_or_search(bank: &mut Bank, transfer: usize, mark: Mark)
+    requires { CanFeedAt (engines_of bank.old) transfer [] }
+    ensures { WasFedAt (engines_of bank.old) transfer [] (is_end mark) (engines_of bank.new) }
+{
+    match mark {
+        Mark::End => bank.end(transfer),
+        Mark::More | Mark::Cut => bank.search_full(transfer),
+    }
 }
 
 // How many transfers end with a block of this mark: 1 or 0.
@@ -107,7 +120,7 @@ impl ShardActor {
         let Some(taken) = feed_block(hdu, reader, &mut self.part, transfer, space) else {
             return;
         };
-        self.part.end_after(transfer, taken.mark);
+        end_or_search(&mut self.part, transfer, taken.mark);
         self.done += ended_with(taken.mark);
         self.ended = ends_stream(taken.mark, self.done as usize, transfers);
     }

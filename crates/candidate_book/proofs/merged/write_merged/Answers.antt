@@ -1,10 +1,9 @@
-use Rattle.std.proofs.Common.{◌≡◌, ◌++◌, subst, ◌∙◌}
+use Rattle.std.proofs.Common.{subst}
 use Rattle.std.proofs.lemmas.Result.{err_from_is_err_and}
-use Rattle.psr_base.specs.Written.{WroteAll, WroteFront}
-use Rattle.search_model.specs.CandidateText.{candidate_lines, end_line}
+use Rattle.psr_base.specs.Written.{WroteFront}
+use Rattle.search_model.specs.CandidateText.{Labels, candidate_lines}
 use Rattle.search_model.specs.Observed.{labels_of}
-use Rattle.candidate_book.specs.Lines.{Pending}
-use Rattle.candidate_book.proofs.Passing.{text_is, all_written, front_written}
+use Rattle.candidate_book.specs.Merged.{WroteText}
 use Rattle.candidate_book.proofs.Listing.{plain_are}
 use Rattle.candidate_book.proofs.merged.write_merged.Goals as goal
 
@@ -25,82 +24,10 @@ returns-in_err-totals g c =
       totals = tt;
     })
 
-pub returns-in_err-push : goal.returns-in_err-push
-returns-in_err-push g c =
-    let p = err_from_is_err_and c.from_residual-in_err-push.result c.from_residual-in_err-push.ensures.1 in
-    rw p.1 (λ merged merge.
-    let labels = labels_of c.args.obs.now in
-    let old = g.K.Sink.seen c.args.sink.now in
-    let new = g.K.Sink.seen c.push.new.sink in
-    let totals = c.in_ok-totals.totals in
-    let listed = c.in_ok-totals.ensures merged merge in
-    let lines = subst (λ l. Pending (candidate_lines l merged) c.pass_candidates.new.page old
-    (g.K.Sink.seen c.pass_candidates.new.sink))
-    (plain_are c.args.obs.now c.of-labels.result.channels c.of-labels.ensures) listed.lines.pending in
-    let line : c.as_bytes.result.now ≡ end_line totals.pulses totals.folds c.args.spectra =
-    c.as_bytes.ensures ∙ c.end_line-line.ensures.text in
-    let front = (c.in_err-push.ensures (candidate_lines labels merged) old lines).front in
-    let whole = subst (λ text. WroteFront (candidate_lines labels merged ++ text) old new) line front in
-    record {
-      text = record {
-        all = tt;
-        front = subst (λ text. WroteFront text old new)
-            (text_is labels c.args.spectra merged totals listed.totals) whole;
-      };
-      totals = tt;
-    })
-
-pub returns-in_err-flush : goal.returns-in_err-flush
-returns-in_err-flush g c =
-    let p = err_from_is_err_and c.from_residual-in_err-flush.result c.from_residual-in_err-flush.ensures.1 in
-    rw p.1 (λ merged merge.
-    let labels = labels_of c.args.obs.now in
-    let old = g.K.Sink.seen c.args.sink.now in
-    let middle = g.K.Sink.seen c.push.new.sink in
-    let new = g.K.Sink.seen c.flush.new.sink in
-    let totals = c.in_ok-totals.totals in
-    let listed = c.in_ok-totals.ensures merged merge in
-    let lines = subst (λ l. Pending (candidate_lines l merged) c.pass_candidates.new.page old
-    (g.K.Sink.seen c.pass_candidates.new.sink))
-    (plain_are c.args.obs.now c.of-labels.result.channels c.of-labels.ensures) listed.lines.pending in
-    let line : c.as_bytes.result.now ≡ end_line totals.pulses totals.folds c.args.spectra =
-    c.as_bytes.ensures ∙ c.end_line-line.ensures.text in
-    let pending = (c.in_ok-push.ensures (candidate_lines labels merged) old lines).pending in
-    let whole =
-    subst (λ text. Pending (candidate_lines labels merged ++ text) c.push.new.self old middle) line pending in
-    let front = front_written _ c.push.new.self old middle new c.pieces_join.ensures.pieces whole
-    c.in_err-flush.ensures.wrote.front in
-    record {
-      text = record {
-        all = tt;
-        front = subst (λ text. WroteFront text old new)
-            (text_is labels c.args.spectra merged totals listed.totals) front;
-      };
-      totals = tt;
-    })
-
 pub returns : goal.returns
 returns g c = λ merged merge.
-    let labels = labels_of c.args.obs.now in
-    let old = g.K.Sink.seen c.args.sink.now in
-    let middle = g.K.Sink.seen c.push.new.sink in
-    let new = g.K.Sink.seen c.flush.new.sink in
-    let totals = c.in_ok-totals.totals in
     let listed = c.in_ok-totals.ensures merged merge in
-    let lines = subst (λ l. Pending (candidate_lines l merged) c.pass_candidates.new.page old
-    (g.K.Sink.seen c.pass_candidates.new.sink))
-    (plain_are c.args.obs.now c.of-labels.result.channels c.of-labels.ensures) listed.lines.pending in
-    let line : c.as_bytes.result.now ≡ end_line totals.pulses totals.folds c.args.spectra =
-    c.as_bytes.ensures ∙ c.end_line-line.ensures.text in
-    let pending = (c.in_ok-push.ensures (candidate_lines labels merged) old lines).pending in
-    let whole =
-    subst (λ text. Pending (candidate_lines labels merged ++ text) c.push.new.self old middle) line pending in
-    let all = all_written _ c.push.new.self old middle new c.pieces_join.ensures.pieces whole
-    c.in_ok-flush.ensures.wrote.all in
-    record {
-      text = record {
-        all = subst (λ text. WroteAll text old new) (text_is labels c.args.spectra merged totals listed.totals) all;
-        front = tt;
-      };
-      totals = listed.totals;
-    }
+    subst (λ (l : Labels). WroteText l c.args.spectra merged (g.K.Sink.seen c.args.sink.now)
+    (g.K.Sink.seen c.end_text.new.sink) c.end_text.result)
+    (plain_are c.args.obs.now c.of-labels.result.channels c.of-labels.ensures)
+    (c.end_text.ensures _ merged _ listed.totals listed.lines.pending)

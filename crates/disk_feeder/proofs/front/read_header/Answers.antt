@@ -40,10 +40,13 @@ returns-in-Err-read_again-clause-stopped g c = λ file known.
     (c.in-Ok.ensures.front file known).header c.in-Err-read_again.ensures.fault.0
 
 pub returns-in-Ok-read_again-clause-read : goal.returns-in-Ok-read_again-clause-read
-returns-in-Ok-read_again-clause-read g c = λ file known.
-    let h = c.read_again.new.self in
-    let has : header_of file ≡ Ok h =
-    sym (c.in-Ok.ensures.front file known).header ∙ c.in-Ok-read_again.ensures.ok in
-    c.in-Ok.ensures.whole file known h has
-    ∙ ap (λ (n : ℕ). moved_by n (opened c.args.name.now (g.I.Inputs.told c.args.inputs.now)))
-    (sym (front_is file h has))
+returns-in-Ok-read_again-clause-read g c = record {
+  known = λ file known.
+      let h = c.read_again.new.self in
+      let has : header_of file ≡ Ok h =
+      sym (c.in-Ok.ensures.front file known).header ∙ c.in-Ok-read_again.ensures.ok in
+      c.in-Ok.ensures.whole file known h has
+      ∙ ap (λ (n : ℕ). moved_by n (opened c.args.name.now (g.I.Inputs.told c.args.inputs.now)))
+      (sym (front_is file h has));
+  earlier = c.in-Ok.ensures.earlier;
+}

@@ -1,7 +1,7 @@
 use Rattle.std.proofs.Common.{sym, subst}
 use Rattle.std.proofs.lemmas.Result.{IfErr-weaker, IfOk-weaker}
 use Rattle.disk_feeder.specs.Feeder.{FeederRead}
-use Rattle.run_stop.specs.Runs.{RecordingAlone}
+use Rattle.run_outcome.specs.Runs.{RecordingAlone}
 use Rattle.search_words.specs.Settings.{run_seen}
 use Rattle.drive_stream.proofs.Openings.{leaves_opening, says_still}
 use Rattle.drive_stream.proofs.open.open.Goals as goal

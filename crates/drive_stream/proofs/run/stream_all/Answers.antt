@@ -22,7 +22,7 @@ returns-clause-ends g c =
 pub returns-clause-broken : goal.returns-clause-broken
 returns-clause-broken g c =
     all_breaks (g.T.Streaming.leaves c.args.task.now) c.requires.run c.requires.opened c.faults_leave.ensures
-    c.write_stream.ensures.wrote
+    c.cuts_stay_told.ensures c.write_stream.ensures.wrote
 
 pub returns-clause-refused : goal.returns-clause-refused
 returns-clause-refused g c =

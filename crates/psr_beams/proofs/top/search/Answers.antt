@@ -3,7 +3,7 @@ use Rattle.std.specs.Prelude.{string_bytes}
 use Rattle.search_words.specs.Settings.{settings_seen}
 use Rattle.psr_beams.specs.Words.{within_of, more_of}
 use Rattle.psr_beams.proofs.Counting.{element}
-use Rattle.psr_beams.proofs.Driving.{beams_within, number_is, driven_ends, driven_early, driven_fails, driven_others}
+use Rattle.psr_beams.proofs.Driving.{number_is, driven_ends, driven_early, driven_fails, driven_others}
 use Rattle.psr_beams.proofs.Telling.{at_words, not_refused}
 use Rattle.psr_beams.proofs.top.search.Goals as goal
 
@@ -18,40 +18,19 @@ returns-in-Err-clause-ends g c =
 pub returns-in-Ok-clause-ends : goal.returns-in-Ok-clause-ends
 returns-in-Ok-clause-ends g c =
     let words = map string_bytes c.args.words.now in
-    let s = settings_seen c.in-Ok.said.settings in
-    let says = c.in-Ok.ensures.says in
-    let count = beams_within words s says in
-    let least = count.0 in let most = count.1 in let lent = c.requires in
-    driven_ends g.I.Inputs.told g.I.Inputs.is_calm g.I.Inputs.faults words c.words_say_once.ensures s says
-    c.args.inputs.now c.drive.new.inputs (omega (arith, most, lent)) (omega (arith, least)) _ _
+    driven_ends _ _ _ words c.words_say_once.ensures _ c.in-Ok.ensures.says _ _ c.requires _ _
     c.accepted_by_rows.ensures c.first_files_continue.ensures c.later_headers_agree.ensures c.in-Ok.said.within
     c.in-Ok.said.more (number_is (within_of words) c.in-Ok.said.within c.in-Ok.ensures.within)
     (number_is (more_of words) c.in-Ok.said.more c.in-Ok.ensures.more) c.drive.result c.drive.ensures
 
 pub returns-in-Ok-clause-early : goal.returns-in-Ok-clause-early
-returns-in-Ok-clause-early g c = λ want.
-    let words = map string_bytes c.args.words.now in
-    let s = settings_seen c.in-Ok.said.settings in
-    let says = c.in-Ok.ensures.says in
-    let count = beams_within words s says in
-    let least = count.0 in let most = count.1 in let lent = c.requires in
-    driven_early g.I.Inputs.told g.I.Inputs.is_calm g.I.Inputs.faults words c.words_say_once.ensures s says
-    c.args.inputs.now c.drive.new.inputs (omega (arith, most, lent)) (omega (arith, least))
-    (g.K.Sink.seen c.args.out.now) (g.K.Sink.seen c.drive.new.out) c.in-Ok.said.within
-    c.in-Ok.said.more c.drive.result c.drive.ensures want
+returns-in-Ok-clause-early g c =
+    driven_early _ _ _ _ c.words_say_once.ensures _ c.in-Ok.ensures.says _ _ c.requires _ _ _ _ _ c.drive.ensures
 
 pub returns-in-Ok-clause-order : goal.returns-in-Ok-clause-order
-returns-in-Ok-clause-order g c = λ want.
-    let words = map string_bytes c.args.words.now in
-    let s = settings_seen c.in-Ok.said.settings in
-    let says = c.in-Ok.ensures.says in
-    let count = beams_within words s says in
-    let least = count.0 in let most = count.1 in let lent = c.requires in
-    driven_fails g.I.Inputs.told g.I.Inputs.is_calm g.I.Inputs.faults words c.words_say_once.ensures s says
-    c.args.inputs.now c.drive.new.inputs (omega (arith, most, lent)) (omega (arith, least))
-    (g.K.Sink.seen c.args.out.now) (g.K.Sink.seen c.drive.new.out)
-    c.accepted_by_rows.ensures c.first_files_continue.ensures c.later_headers_agree.ensures c.in-Ok.said.within
-    c.in-Ok.said.more c.drive.result c.drive.ensures want
+returns-in-Ok-clause-order g c =
+    driven_fails _ _ _ _ c.words_say_once.ensures _ c.in-Ok.ensures.says _ _ c.requires _ _
+    c.accepted_by_rows.ensures c.first_files_continue.ensures c.later_headers_agree.ensures _ _ _ c.drive.ensures
 
 pub returns-in-Ok-clause-refused : goal.returns-in-Ok-clause-refused
 returns-in-Ok-clause-refused g c = λ two.
@@ -60,12 +39,4 @@ returns-in-Ok-clause-refused g c = λ two.
 
 pub returns-in-Ok-clause-others : goal.returns-in-Ok-clause-others
 returns-in-Ok-clause-others g c =
-    let words = map string_bytes c.args.words.now in
-    let s = settings_seen c.in-Ok.said.settings in
-    let says = c.in-Ok.ensures.says in
-    let count = beams_within words s says in
-    let least = count.0 in let most = count.1 in let lent = c.requires in
-    driven_others g.I.Inputs.told g.I.Inputs.is_calm g.I.Inputs.faults words c.words_say_once.ensures s says
-    c.args.inputs.now c.drive.new.inputs (omega (arith, most, lent)) (omega (arith, least))
-    (g.K.Sink.seen c.args.out.now) (g.K.Sink.seen c.drive.new.out) c.in-Ok.said.within
-    c.in-Ok.said.more c.drive.result c.drive.ensures
+    driven_others _ _ _ _ c.words_say_once.ensures _ c.in-Ok.ensures.says _ _ c.requires _ _ _ _ _ c.drive.ensures

@@ -1,7 +1,7 @@
 use Rattle.std.proofs.Common.{◌≡◌, ℕ, ◌∙◌, sym, ap, subst, arith}
-use Rattle.run_stop.specs.declared.stop.Stop.{Stop}
-use Rattle.run_stop.specs.declared.stop.Stop.TheVariants.{Words, Value, Header, Plan, Recording, Memory, ReadFault, Gap, TooLong, TooMany, SinkFault, FileFault}
-use Rattle.run_stop.specs.Texts.{status_of}
+use Rattle.run_outcome.specs.declared.stop.Stop.{Stop}
+use Rattle.run_outcome.specs.declared.stop.Stop.TheVariants.{Words}
+use Rattle.run_outcome.specs.Texts.{status_of}
 use Rattle.psr_level.specs.declared.stop.LevelStop.{LevelStop}
 use Rattle.psr_level.specs.declared.stop.LevelStop.TheVariants as stops
 use Rattle.psr_level.specs.Complete.{IsComplete}
@@ -13,23 +13,11 @@ use Rattle.psr_level.proofs.top.run_level.Goals as goal
 -- a stop is answered by another status than 0
 run_status : (stop : Stop) → status_of stop ≡ 0 → ⊥
 run_status Words is = absurd (omega (arith, is))
-run_status (Value opt) is = absurd (omega (arith, is))
-run_status (Header file cause) is = absurd (omega (arith, is))
-run_status (Plan cause) is = absurd (omega (arith, is))
-run_status (Recording cause) is = absurd (omega (arith, is))
-run_status Memory is = absurd (omega (arith, is))
-run_status ReadFault is = absurd (omega (arith, is))
-run_status (Gap file expected found) is = absurd (omega (arith, is))
-run_status (TooLong limit) is = absurd (omega (arith, is))
-run_status (TooMany count limit) is = absurd (omega (arith, is))
-run_status SinkFault is = absurd (omega (arith, is))
-run_status FileFault is = absurd (omega (arith, is))
+run_status stop is = absurd (omega (arith, is))
 
 some_status : (stop : LevelStop) → level_status stop ≡ 0 → ⊥
 some_status (stops.Run stop) is = run_status stop is
-some_status (stops.Value opt) is = absurd (omega (arith, is))
-some_status (stops.Mask fault) is = absurd (omega (arith, is))
-some_status (stops.NoRoom need size) is = absurd (omega (arith, is))
+some_status stop is = absurd (omega (arith, is))
 
 pub returns-in-Some-clause-headline : goal.returns-in-Some-clause-headline
 returns-in-Some-clause-headline g c = λ none. absurd (some_status c.in-Some.stop (sym c.status.ensures ∙ none))

@@ -2,13 +2,13 @@ use Rattle.std.proofs.Common.{◌≡◌, List, ℕ, None, Some, refl, sym, ◌�
 use Rattle.std.specs.Prelude.{Option, string_bytes}
 use Rattle.search_words.specs.Settings.{settings_seen}
 use Rattle.channel_mask.specs.Masks.{mask_of}
-use Rattle.run_stop.specs.Conversions.{stop_of_feed}
-use Rattle.run_stop.specs.declared.stop.Stop.{Stop}
-use Rattle.run_stop.specs.declared.stop.Stop.TheVariants.{Memory}
-use Rattle.lone_run.specs.declared.stop.LoneStop.{LoneStop}
-use Rattle.lone_run.specs.declared.stop.LoneStop.TheVariants.{Run, Unscoped}
-use Rattle.lone_run.specs.Found.{IsFoundAlone}
-use Rattle.lone_run.specs.Stops.{ReadsBefore, StopsAlone}
+use Rattle.run_outcome.specs.Conversions.{stop_of_feed}
+use Rattle.run_outcome.specs.declared.stop.Stop.{Stop}
+use Rattle.run_outcome.specs.declared.stop.Stop.TheVariants.{Memory}
+use Rattle.drive_lone.specs.declared.stop.LoneStop.{LoneStop}
+use Rattle.drive_lone.specs.declared.stop.LoneStop.TheVariants.{Run, Unscoped}
+use Rattle.drive_lone.specs.Found.{IsFoundAlone}
+use Rattle.drive_lone.specs.Stops.{ReadsBefore, StopsAlone}
 use Rattle.psr_mask.specs.Ends.{as_alone}
 use Rattle.psr_mask.specs.Masking.{mask_search, mask_word, AcceptsMask, RefusesMask, ScopesMask}
 use Rattle.psr_mask.specs.declared.refusal.MaskRefusal.{MaskRefusal}

@@ -1,6 +1,6 @@
 use Rattle.std.proofs.Common.{sym, subst}
 use Rattle.std.specs.Prelude.{Option}
-use Rattle.run_stop.specs.declared.stop.Stop.{Stop}
+use Rattle.run_outcome.specs.declared.stop.Stop.{Stop}
 use Rattle.psr_mask.specs.Ends.{EndsFed}
 use Rattle.psr_mask.proofs.Statuses.{whole_is}
 use Rattle.psr_mask.proofs.writing.write_end.Goals as goal

@@ -2,8 +2,8 @@ use Rattle.std.proofs.Common.{◌≡◌, Some, None, inr, refl, subst, map}
 use Rattle.std.specs.Prelude.{⊤, Option, string_bytes}
 use Rattle.ring_ends.specs.declared.finished.Finished.{Finished}
 use Rattle.psr_part.proofs.Endings.{at_words}
-use Rattle.run_stop.specs.Outcomes as runs
-use Rattle.lone_run.specs.Stops.{ReadsBefore}
+use Rattle.run_outcome.specs.Outcomes as runs
+use Rattle.drive_lone.specs.Stops.{ReadsBefore}
 use Rattle.psr_part.specs.Part.{check_names, part_search, searching}
 use Rattle.psr_part.proofs.Said.{until_is}
 use Rattle.psr_part.proofs.Runs.{goes_on, never, after_check, part_found, is_memory, check_read, with_blocks, where_refused, where_lone, where_driven}

@@ -1,8 +1,8 @@
-use Rattle.std.proofs.Common.{◌≡◌, Some, None, refl, ap}
-use Rattle.run_stop.specs.declared.stop.Stop.{Stop}
-use Rattle.run_stop.specs.declared.stop.Stop.TheVariants.{ReadFault}
-use Rattle.run_stop.specs.Conversions.{stop_of_feed}
-use Rattle.psr_record.proofs.Endings.{records, at_short, after_session, stand, leaves_closed}
+use Rattle.std.proofs.Common.{◌≡◌, Some, refl, ap}
+use Rattle.run_outcome.specs.declared.stop.Stop.{Stop}
+use Rattle.run_outcome.specs.declared.stop.Stop.TheVariants.{ReadFault}
+use Rattle.run_outcome.specs.Conversions.{stop_of_feed}
+use Rattle.psr_record.proofs.Endings.{records, at_once, after_session, stand, leaves_closed}
 use Rattle.psr_record.proofs.top.record_files.Goals as goal
 
 pub drive-requires-clause-drivable : goal.drive-requires-clause-drivable
@@ -14,7 +14,7 @@ drive-requires-clause-drivable g c = λ lifetimes lives. record {
 
 pub returns-in-Err-clause-ends : goal.returns-in-Err-clause-ends
 returns-in-Err-clause-ends g c =
-    at_short _ _ _ _ _ None c.of_words.result
+    at_once _ _ _ _ _ c.of_words.result
     (c.end_at_words.ensures c.args.inputs.now _ _ _ _ c.in-Err.fault c.of_words.result c.in-Err.ensures.fault
     c.of_words.ensures refl)
 
@@ -37,7 +37,7 @@ pub returns-clause-ends : goal.returns-clause-ends
 returns-clause-ends g c =
     let r = c.in-Err-drive.ensures in
     let says = c.in-Ok.ensures.says in
-    at_short _ _ _ _ _ None c.in-Err-drive.stop
+    at_once _ _ _ _ _ c.in-Err-drive.stop
     (c.end_before_session.ensures c.args.inputs.now _ _ _ _ _ _ c.in-Err-drive.stop says (r.stopped _ says)
     (ap g.F.Files.seen r.stands)
     (record { rose = r.inputs.rose; quiet = r.inputs.quiet; count = r.inputs.count; serves = r.serves }))
@@ -59,7 +59,7 @@ returns-clause-broken g c = λ failed.
 
 pub returns-in-Err-clause-left : goal.returns-in-Err-clause-left
 returns-in-Err-clause-left g c = λ status zeroth.
-    stand _ g.F.Files.is_open g.F.Files.seen c.args.files.now c.args.files.now _ status refl
+    stand _ g.F.Files.is_open g.F.Files.seen c.args.files.now c.args.files.now _ _ status refl
 
 pub returns-in-Ok-drive-clause-left : goal.returns-in-Ok-drive-clause-left
 returns-in-Ok-drive-clause-left g c = λ status zeroth.
@@ -71,4 +71,5 @@ returns-in-Ok-drive-clause-left g c = λ status zeroth.
 
 pub returns-clause-left : goal.returns-clause-left
 returns-clause-left g c = λ status zeroth.
-    stand _ g.F.Files.is_open g.F.Files.seen c.args.files.now c.drive.new.files _ status c.in-Err-drive.ensures.stands
+    stand _ g.F.Files.is_open g.F.Files.seen c.args.files.now c.drive.new.files _ _ status
+    c.in-Err-drive.ensures.stands

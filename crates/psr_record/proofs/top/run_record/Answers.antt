@@ -3,7 +3,7 @@ use Rattle.psr_record.proofs.top.run_record.Goals as goal
 
 pub returns-clause-outcome : goal.returns-clause-outcome
 returns-clause-outcome g c =
-    outcome _ _ _ _ _ _ _ _ _ c.tell-status.result c.record_files-stop.ensures.ends c.tell-status.ensures.status
+    outcome _ _ _ _ _ _ _ _ _ _ c.tell-status.result c.record_files-stop.ensures.ends c.tell-status.ensures.status
     (c.tell-status.ensures.told _ _ _ c.record_files-stop.ensures.ends.said)
 
 pub returns-clause-broken : goal.returns-clause-broken

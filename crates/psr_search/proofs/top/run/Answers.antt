@@ -3,7 +3,7 @@ use Rattle.psr_search.proofs.top.run.Goals as goal
 
 pub returns-clause-outcome : goal.returns-clause-outcome
 returns-clause-outcome g c =
-    outcome _ _ _ _ _ _ _ _ _ _ _ c.tell-status.result c.search-stop.ensures.ends c.tell-status.ensures.status
+    outcome _ _ _ _ _ _ _ _ _ _ _ _ c.tell-status.result c.search-stop.ensures.ends c.tell-status.ensures.status
     (c.tell-status.ensures.told _ _ _ c.search-stop.ensures.ends.said)
 
 pub returns-clause-broken : goal.returns-clause-broken

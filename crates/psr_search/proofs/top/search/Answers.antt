@@ -1,7 +1,7 @@
 use Rattle.std.proofs.Common.{◌≡◌, Some, refl, ap}
-use Rattle.run_stop.specs.declared.stop.Stop.{Stop}
-use Rattle.run_stop.specs.declared.stop.Stop.TheVariants.{ReadFault}
-use Rattle.run_stop.specs.Conversions.{stop_of_feed}
+use Rattle.run_outcome.specs.declared.stop.Stop.{Stop}
+use Rattle.run_outcome.specs.declared.stop.Stop.TheVariants.{ReadFault}
+use Rattle.run_outcome.specs.Conversions.{stop_of_feed}
 use Rattle.psr_search.proofs.Endings.{at_once, after_session, stand, leaves_closed}
 use Rattle.psr_search.proofs.top.search.Goals as goal
 
@@ -64,7 +64,7 @@ returns-clause-broken g c = λ failed.
 
 pub returns-in-Err-clause-left : goal.returns-in-Err-clause-left
 returns-in-Err-clause-left g c = λ status zeroth.
-    stand _ g.F.Files.is_open g.F.Files.seen c.args.files.now c.args.files.now _ status refl
+    stand _ g.F.Files.is_open g.F.Files.seen c.args.files.now c.args.files.now _ _ status refl
 
 pub returns-in-Ok-drive-clause-left : goal.returns-in-Ok-drive-clause-left
 returns-in-Ok-drive-clause-left g c = λ status zeroth.
@@ -78,4 +78,5 @@ returns-in-Ok-drive-clause-left g c = λ status zeroth.
 
 pub returns-clause-left : goal.returns-clause-left
 returns-clause-left g c = λ status zeroth.
-    stand _ g.F.Files.is_open g.F.Files.seen c.args.files.now c.drive.new.files _ status c.in-Err-drive.ensures.stands
+    stand _ g.F.Files.is_open g.F.Files.seen c.args.files.now c.drive.new.files _ _ status
+    c.in-Err-drive.ensures.stands

@@ -1,6 +1,6 @@
 use Rattle.std.proofs.Common.{◌≡◌, true}
 use Rattle.disk_feeder.specs.Feeder.{headers_of}
-use Rattle.run_stop.specs.Runs.{task_of, settings_for}
+use Rattle.run_outcome.specs.Runs.{task_of, settings_for}
 use Rattle.search_opening.specs.Judged.{IsRefused}
 use Rattle.search_opening.proofs.Opening.{both_err, if_err, search_refused, recording_refused}
 use Rattle.search_opening.proofs.judge.judge.Goals as goal

@@ -2,8 +2,8 @@ use Rattle.std.proofs.Common.{length, sym, subst}
 use Rattle.std.specs.Prelude.{OnOk, IfErr}
 use Rattle.search_model.specs.Search.{SettingsInRange}
 use Rattle.stream_model.specs.Walk.{FileStream}
-use Rattle.run_stop.specs.declared.purpose.Purpose.{Purpose}
-use Rattle.run_stop.specs.Runs.{IfSearch, CanSearchFirst, task_of, search_for}
+use Rattle.run_outcome.specs.declared.purpose.Purpose.{Purpose}
+use Rattle.run_outcome.specs.Runs.{IfSearch, CanSearchFirst, task_of, search_for}
 use Rattle.search_opening.specs.First.{AreFirsts}
 use Rattle.search_opening.specs.Plans.{PlansFit, StopsSearch}
 use Rattle.search_opening.proofs.judge.judge_search.Goals as goal

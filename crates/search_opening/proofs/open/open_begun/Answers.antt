@@ -4,7 +4,7 @@ use Rattle.disk_feeder.specs.Feeder.{headers_of}
 use Rattle.search_opening.specs.Offsets.{AreOffsetsOf}
 use Rattle.search_opening.specs.Plans.{PlansFit}
 use Rattle.search_opening.specs.Judged.{AreFit, RefusesJudged}
-use Rattle.run_stop.specs.Runs.{IfSearch, task_of, search_for, settings_for}
+use Rattle.run_outcome.specs.Runs.{IfSearch, task_of, search_for, settings_for}
 use Rattle.search_opening.proofs.Opening.{all_there, is_opened, refusal_says}
 use Rattle.search_opening.proofs.open.open_begun.Goals as goal
 

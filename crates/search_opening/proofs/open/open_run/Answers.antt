@@ -1,7 +1,7 @@
 use Rattle.std.proofs.Common.{Result, Ok, Err, OnOk, sym, subst}
 use Rattle.search_words.specs.Settings.{run_seen}
 use Rattle.disk_feeder.specs.Feeder.{FeederRead}
-use Rattle.run_stop.specs.Runs.{task_of, search_for, settings_for}
+use Rattle.run_outcome.specs.Runs.{task_of, search_for, settings_for}
 use Rattle.search_opening.specs.Early.{StopsEarly}
 use Rattle.search_opening.proofs.Opening.{leaves_opening}
 use Rattle.search_opening.proofs.Results.{map_err}

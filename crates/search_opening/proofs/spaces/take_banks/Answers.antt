@@ -2,8 +2,8 @@ use Rattle.std.proofs.Common.{sym, subst}
 use Rattle.std.specs.Prelude.{IfOk}
 use Rattle.search_model.specs.Search.{SettingsInRange}
 use Rattle.search_words.specs.Settings.{with_search}
-use Rattle.run_stop.specs.declared.purpose.Purpose.{Purpose}
-use Rattle.run_stop.specs.Runs.{IfSearch, task_of, search_for}
+use Rattle.run_outcome.specs.declared.purpose.Purpose.{Purpose}
+use Rattle.run_outcome.specs.Runs.{IfSearch, task_of, search_for}
 use Rattle.search_opening.specs.Plans.{PlansFit}
 use Rattle.search_opening.specs.Spaces.{AreBanksOf}
 use Rattle.search_opening.proofs.spaces.take_banks.Goals as goal

@@ -7,6 +7,6 @@ returns-clause-fresh g c = λ plan block is. record {
   block_is = is.block_is;
   closed = is.closed;
   running = is.running;
-  stands = stands_fresh c.args.space.track is.running is.nothing;
+  stands = stands_fresh c.args.space is.running is.nothing;
   made = λ outset seen begins. begins_made _ outset _ _ seen begins is.closed is.running;
 }

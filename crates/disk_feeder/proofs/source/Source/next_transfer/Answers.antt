@@ -36,10 +36,14 @@ next_shut plan before told at files are none shut over stands =
     (over ∙ sym (begin_is plan files are.count (at.transfer + 1))))
 
 pub returns-clause-reads_on : goal.returns-clause-reads_on
-returns-clause-reads_on c = λ before told reads files are.
+returns-clause-reads_on c = λ before told reads.
     let source = c.args.self.now in
     let plan = plan_of source in
     let at = source.place in
-    next_shut plan before told at files are c.data_none.ensures c.requires.shut
-    (c.requires.over ∙ ap (λ (n : ℕ). begin_at source.starts.now n (at.transfer + 1)) (sym (name_count source)))
-    (reads files are)
+    record {
+      known = λ files are.
+          next_shut plan before told at files are c.data_none.ensures c.requires.shut
+          (c.requires.over ∙ ap (λ (n : ℕ). begin_at source.starts.now n (at.transfer + 1)) (sym (name_count source)))
+          (reads.known files are);
+      through = reads.through;
+    }

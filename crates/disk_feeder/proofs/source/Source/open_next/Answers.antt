@@ -16,13 +16,14 @@ use Rattle.disk_feeder.specs.declared.place.First.{First}
 use Rattle.disk_feeder.specs.declared.place.Place.{Place}
 use Rattle.disk_feeder.specs.declared.source.Source.{Source}
 use Rattle.disk_feeder.specs.Ends.{IsStop, IsOfHeader, fault_of}
-use Rattle.disk_feeder.specs.Plan.{Plan, stream_of, IsAmong, AreToldTo, AreToldWithFirsts, opened_at, AreAccepted}
+use Rattle.disk_feeder.specs.Plan.{Plan, stream_of, IsAmong, AreToldTo, AreToldWithFirsts, opened_at, IsAtFile, AreAccepted}
 use Rattle.disk_feeder.specs.History.{StandsIf, ReadsUpTo, BreaksOffAt}
 use Rattle.disk_feeder.specs.Reached.{WalkGoesOn}
-use Rattle.disk_feeder.specs.Reading.{NoStopBefore, HasRead, HasEnded, EndsReading, judged_at}
+use Rattle.disk_feeder.specs.Reading.{NoStopBefore, DataBegin, HasRead, HasEnded, EndsReading, judged_at}
 use Rattle.disk_feeder.specs.Sources.{plan_of, RefusesText}
 use Rattle.disk_feeder.proofs.Histories.{opened_on, broken_on, stands_shut, shut_breaks}
-use Rattle.disk_feeder.proofs.Openings.{Opens, stop_is, went_on, stopped_at, front_at}
+use Rattle.disk_feeder.proofs.Behind.{begin_still, begin_opened, through_opened, through_unopened}
+use Rattle.disk_feeder.proofs.Openings.{Opens, at_file, stop_is, went_on, stopped_at, front_at}
 use Rattle.disk_feeder.proofs.Needed.{told_before, told_opened, told_within, firsts_opened, firsts_aside, passed_still, headers_still}
 use Rattle.disk_feeder.proofs.Streams.{begin_most}
 use Rattle.disk_feeder.proofs.OfSource.{opens}
@@ -56,6 +57,8 @@ by_text : (plan : Plan) (told told' : Told) (at : Place) (before : List (List �
 by_text plan told told' at before current o has transfers counts join goes room end refuses = record {
   passed = passed_still plan told told' at.file o.names has.passed;
   ends = by_end end refuses;
+  inside = at_file plan told told' at o;
+  begin = begin_still plan told at before current has.begin told' o.names;
 }
   where
     refused : (end : FeedEnd) →
@@ -159,20 +162,22 @@ returns-in-Ok-judge-clause-read g c = λ before current has.
           ∙ judged_stop at.file first at.since file new.later (c.in-Ok.ensures.header file known)
           ∙ subst Q c.in-Ok.ensures.stays.place c.in-Ok-judge.ensures.judged)
           (c.in-Ok.ensures.left file known);
+      begin = begin_opened plan told' at before current
+          (begin_still plan told at before current has.begin told' o.names);
     }
 
 -- an end of a header is judged by its file
 ended_by_header : (plan : Plan) (told : Told) (at : Place) (before : List (List ℕ)) (current : List ℕ) (room : ℕ)
-    (end : FeedEnd) → IsOfHeader end → NoStopBefore plan told at.file →
-    ((files : List (List ℕ)) → AreToldTo (at.file + 1) told plan files →
+    (end : FeedEnd) → IsOfHeader end → NoStopBefore plan told at.file → IsAtFile plan at →
+    DataBegin plan told at before current → ((files : List (List ℕ)) → AreToldTo (at.file + 1) told plan files →
     EndsReading (stream_of plan files) at before current room end) → HasEnded plan told at before current room end
-ended_by_header plan told at before current room (Whole bytes) kind passed ends = absurd kind
-ended_by_header plan told at before current room ReadFault kind passed ends = absurd kind
-ended_by_header plan told at before current room (BadHeader file cause) kind passed ends =
-    record { passed = passed; ends = ends }
-ended_by_header plan told at before current room (Gap file expected found) kind passed ends =
-    record { passed = passed; ends = ends }
-ended_by_header plan told at before current room (TooLong limit) kind passed ends = absurd kind
+ended_by_header plan told at before current room (Whole bytes) kind passed inside begin ends = absurd kind
+ended_by_header plan told at before current room ReadFault kind passed inside begin ends = absurd kind
+ended_by_header plan told at before current room (BadHeader file cause) kind passed inside begin ends =
+    record { passed = passed; ends = ends; inside = inside; begin = begin }
+ended_by_header plan told at before current room (Gap file expected found) kind passed inside begin ends =
+    record { passed = passed; ends = ends; inside = inside; begin = begin }
+ended_by_header plan told at before current room (TooLong limit) kind passed inside begin ends = absurd kind
 
 pub returns-in-Err-judge-clause-read : goal.returns-in-Err-judge-clause-read
 returns-in-Err-judge-clause-read g c = λ before current has room.
@@ -188,7 +193,8 @@ returns-in-Err-judge-clause-read g c = λ before current has room.
     let first = c.first.result in
     let there = first_is source new first c.in-Ok.ensures.stays.plan c.in-Ok.ensures.stays.place c.first.ensures in
     ended_by_header plan told' at before current room c.in-Err-judge.end c.in-Err-judge.ensures.kind
-    (passed_still plan told told' at.file o.names has.passed) (λ files are.
+    (passed_still plan told told' at.file o.names has.passed) (at_file plan told told' at o)
+    (begin_still plan told at before current has.begin told' o.names) (λ files are.
     let fewer = told_opened at told' plan files are in
     let file = file_at (stream_of plan files) at.file in
     let known = known_at plan told told' at files o are in
@@ -223,7 +229,7 @@ read_before : (plan : Plan) (told told' before : Told) (at : Place) (files : Lis
     StandsIf at.is_open plan.names (stream_of plan files) before told at
 read_before plan told told' before at files o are reads =
     let Needed : ℕ → Type 0 = IsAmong (opened_at at) plan.starts (length plan.names) in
-    reads files (told_before Needed told told' plan.names files o.names are)
+    reads.known files (told_before Needed told told' plan.names files o.names are)
 
 pub returns-in-Ok-judge-clause-reads_on : goal.returns-in-Ok-judge-clause-reads_on
 returns-in-Ok-judge-clause-reads_on g c = λ before reads.
@@ -236,13 +242,17 @@ returns-in-Ok-judge-clause-reads_on g c = λ before reads.
     opens source told told' c.requires.shut c.requires.more.there c.requires.more.more
     c.open_file.ensures.inputs.names in
     let P : Place → Type 0 = λ pl. ReadsUpTo plan before told' (record pl { is_open = true }) in
-    subst P (sym c.in-Ok.ensures.stays.place) (λ files are.
-    let s = stream_of plan files in
-    opened_on plan.names s before told told' at.transfer at.file at.since
-    (stands_shut at.is_open plan.names s before told at o.shut
-    (read_before plan told told' before at files o (firsts_opened at told' plan files are) reads))
-    (c.in-Ok.ensures.read (file_at s at.file)
-    (known_at plan told told' at files o (firsts_aside (at.file + 1) told' plan files are))))
+    subst P (sym c.in-Ok.ensures.stays.place) (record {
+      known = λ files are.
+          let s = stream_of plan files in
+          let known = known_at plan told told' at files o (firsts_aside (at.file + 1) told' plan files are) in
+          opened_on plan.names s before told told' at.transfer at.file at.since c.open_file.new.self.later
+          (c.in-Ok.ensures.header (file_at s at.file) known)
+          (stands_shut at.is_open plan.names s before told at o.shut
+          (read_before plan told told' before at files o (firsts_opened at told' plan files are) reads))
+          (c.in-Ok.ensures.read.known (file_at s at.file) known);
+      through = through_opened plan before told told' at o.names reads.through o.shut c.in-Ok.ensures.read.earlier;
+    })
 
 -- an end that a header gives is no fault
 no_fault : (end : FeedEnd) → IsOfHeader end → end ≡ ReadFault → ⊥
@@ -262,12 +272,16 @@ returns-in-Err-clause-reads_on g c = λ before reads failed.
     let o : Opens plan told told' at =
     opens source told told' c.requires.shut c.requires.more.there c.requires.more.more
     c.open_file.ensures.inputs.names in
+    let broke = c.in-Err.ensures.broke (ap Err failed) in
     let P : Place → Type 0 = λ pl. BreaksOffAt plan before told' pl in
-    subst P (sym c.in-Err.ensures.stays.place) (λ files are.
-    let s = stream_of plan files in
-    shut_breaks at.is_open plan.names s before told' at o.shut
-    (broken_on plan.names s before told told' at.transfer at.file at.since
-    (stands_shut at.is_open plan.names s before told at o.shut
-    (read_before plan told told' before at files o (firsts_opened at told' plan files are) reads))
-    (c.in-Err.ensures.broke (ap Err failed) (file_at s at.file)
-    (known_at plan told told' at files o (firsts_aside (at.file + 1) told' plan files are)))))
+    subst P (sym c.in-Err.ensures.stays.place) (record {
+      known = λ files are.
+          let s = stream_of plan files in
+          shut_breaks at.is_open plan.names s before told' at o.shut
+          (broken_on plan.names s before told told' at.transfer at.file at.since
+          (stands_shut at.is_open plan.names s before told at o.shut
+          (read_before plan told told' before at files o (firsts_opened at told' plan files are) reads))
+          (broke.known (file_at s at.file)
+          (known_at plan told told' at files o (firsts_aside (at.file + 1) told' plan files are))));
+      through = through_unopened plan before told told' at o.names reads.through o.shut broke.one;
+    })

@@ -3,13 +3,15 @@ use Rattle.std.specs.Prelude.{IsSome, slice_get, slice_index_or, string_bytes}
 use Rattle.std.proofs.lemmas.Bool.{cases_eq}
 use Rattle.std.proofs.lemmas.Option.{slice_get-get_or}
 use Rattle.dada_model.specs.Fields.{HeaderText}
-use Rattle.psr_base.specs.Told.{Told, opened, moved_by}
+use mathlib.Core.List.{IsPrefix}
+use Rattle.psr_base.specs.Told.{Told, history, opened, moved_by}
 use Rattle.disk_feeder.specs.declared.source.Source.{Source}
 use Rattle.disk_feeder.specs.Plan.{begin_at}
 use Rattle.disk_feeder.specs.Sources.{first_name, KeepsHeaders, RefusesFirst}
 use Rattle.disk_feeder.specs.Front.{front_of, BreaksAt}
 use Rattle.disk_feeder.specs.History.{firsts_read}
-use Rattle.disk_feeder.specs.Beginning.{KeepsSource, NamesFile}
+use Rattle.disk_feeder.specs.Beginning.{KeepsSource, FirstsRead, NamesFile}
+use Rattle.disk_feeder.proofs.Behind.{prefix_is, prefix_past}
 use Rattle.disk_feeder.proofs.source.Source.read_headers.Goals as goal
 
 keeps : (a b c : Source) (k : ℕ) → KeepsSource a b → KeepsHeaders b k c → KeepsSource a c
@@ -50,6 +52,14 @@ none_read : (name_of file_of : ℕ → List ℕ) (told : Told) → told ≡ firs
 unfolding firsts_read
 none_read name_of file_of told = refl
 
+-- where it is what is told, it is all that was read
+all_through : (name_of file_of : ℕ → List ℕ) (k count : ℕ) (old new : Told) → k ≡ count →
+    new ≡ firsts_read name_of file_of count old →
+    IsPrefix (history (firsts_read name_of file_of k old)) (history new)
+all_through name_of file_of k count old new same read =
+    prefix_is (history (firsts_read name_of file_of k old)) (history new)
+    (ap history (ap (λ (n : ℕ). firsts_read name_of file_of n old) same ∙ sym read))
+
 pub loop-transfer-init : goal.loop-transfer-init
 loop-transfer-init g c =
     let told = g.I.Inputs.told c.args.inputs.now in
@@ -58,6 +68,9 @@ loop-transfer-init g c =
       headers = λ k below. absurd (omega arith);
       left = λ k last. absurd (omega arith);
       read = λ file_of are. none_read (first_name c.args.self.now) file_of told;
+      through = λ k upto file_of are.
+          all_through (first_name c.args.self.now) file_of k 0 told told (omega arith)
+          (none_read (first_name c.args.self.now) file_of told);
       is_open = λ some. absurd (omega arith);
       names = refl;
       quiet = refl;
@@ -95,6 +108,12 @@ loop-transfer-preserved g c =
     let t = c.loop-transfer.transfer in
     let told = i.told c.args.inputs.now in
     let told' = i.told c.loop-transfer.inputs in
+    let read : FirstsRead told old (t + 1) (i.told c.read_first.new.inputs) = λ file_of are.
+    one_more (first_name old) file_of t told told' (i.told c.read_first.new.inputs) (first_name now t)
+    (before.read file_of (λ k below. are k (omega arith)))
+    (name_same old now t before.kept)
+    (c.in-Ok.ensures.read.known (file_of t)
+    (told_still old now told told' t t (file_of t) before.kept before.names refl (are t (omega arith)))) in
     record {
       kept = keeps old now new t before.kept c.read_first.ensures.kept;
       headers = λ k below file known header at. elim (cases_eq k t) [
@@ -108,12 +127,15 @@ loop-transfer-preserved g c =
       left = λ k last file known.
           c.in-Ok.ensures.left file (told_still old now told told' k t file before.kept before.names (omega arith)
           known);
-      read = λ file_of are.
-          one_more (first_name old) file_of t told told' (i.told c.read_first.new.inputs) (first_name now t)
-          (before.read file_of (λ k below. are k (omega arith)))
-          (name_same old now t before.kept)
-          (c.in-Ok.ensures.read (file_of t)
-          (told_still old now told told' t t (file_of t) before.kept before.names refl (are t (omega arith))));
+      read = read;
+      through = λ k upto file_of are. elim (cases_eq k (t + 1)) [
+        | inl same ↦
+            all_through (first_name old) file_of k (t + 1) told (i.told c.read_first.new.inputs) same
+            (read file_of (λ j below. are j (omega arith)))
+        | inr other ↦
+            prefix_past (history (firsts_read (first_name old) file_of k told)) told' (i.told c.read_first.new.inputs)
+            (inr c.in-Ok.ensures.read.earlier) (before.through k (omega arith) file_of are)
+      ];
       is_open = λ some. c.in-Ok.ensures.is_open;
       names = c.read_first.ensures.inputs.names ∙ before.names;
       quiet = c.in-Ok.ensures.inputs.quiet (λ e. absurd cc) ∙ before.quiet;
@@ -180,8 +202,11 @@ returns-in-Err-clause-broke g c = λ failed.
           breaks_next (first_name old) file_of t told told' (i.told c.read_first.new.inputs) (first_name now t)
           (before.read file_of (λ k below. are k (omega arith)))
           (name_same old now t before.kept)
-          (c.in-Err.ensures.broke failed (file_of t)
+          ((c.in-Err.ensures.broke failed).known (file_of t)
           (told_still old now told told' t t (file_of t) before.kept before.names refl (are t (omega arith))));
+      through = λ k upto file_of are.
+          prefix_past (history (firsts_read (first_name old) file_of k told)) told' (i.told c.read_first.new.inputs)
+          (c.in-Err.ensures.broke failed).one (before.through k upto file_of are);
       missing = λ calm some.
           (c.in-Err.ensures.serves (before.calm calm) failed).untold
           (some_still old now told told' t before.kept before.names some);

@@ -5,7 +5,7 @@ use Rattle.disk_feeder.specs.declared.due.Due.TheVariants.{Stopped}
 use Rattle.disk_feeder.specs.Sources.{plan_of}
 use Rattle.disk_feeder.specs.Feeding.{header_entries, headers_sealed}
 use Rattle.disk_feeder.proofs.Runs.{with_due}
-use Rattle.disk_feeder.proofs.Sealings.{cut_sealed, cut_at}
+use Rattle.disk_feeder.proofs.Sealings.{cut_sealed, cut_at, cut_past}
 use Rattle.disk_feeder.proofs.OfSource.{plan_place}
 use Rattle.disk_feeder.proofs.stream.Stream.hand_cut.Goals as goal
 
@@ -25,4 +25,7 @@ returns-clause-hands c = λ told headers blocks was.
       cut = λ failed files are.
           cut_at plan told old.source.place old.block.items old.held c.args.end blocks more filled
           (plan_place old.source).total refl failed files are;
+      past = λ failed.
+          cut_past plan told old.source.place old.block.items old.held c.args.end blocks more filled
+          (plan_place old.source).total refl;
     }

@@ -7,9 +7,9 @@ use Rattle.disk_feeder.specs.Sources.{plan_of}
 use Rattle.disk_feeder.proofs.Fates.{is_stopped, of_fate}
 use Rattle.disk_feeder.specs.Turns.{sealed_headers, sealed_blocks}
 use Rattle.disk_feeder.specs.Plan.{stream_of}
-use Rattle.disk_feeder.specs.Feeding.{header_entries, headers_sealed, IsEnded, IsCutAt}
+use Rattle.disk_feeder.specs.Feeding.{header_entries, headers_sealed, IsEnded, IsCutAt, IsCutPast}
 use Rattle.disk_feeder.proofs.Runs.{blocks_full, with_due}
-use Rattle.disk_feeder.proofs.Sealings.{cut_sealed, cut_at}
+use Rattle.disk_feeder.proofs.Sealings.{cut_sealed, cut_at, cut_past}
 use Rattle.disk_feeder.proofs.OfSource.{plan_place}
 use Rattle.disk_feeder.proofs.stream.Stream.seal_cut.Goals as goal
 
@@ -36,6 +36,11 @@ returns-in-Ok-clause-feeds c = λ told was.
           subst Q (sym c.write_block.ensures.space)
           (cut_at plan told old.source.place old.block.items old.held c.args.end (sealed_blocks pass)
           (sealed_blocks pass') filled (plan_place old.source).total c.in-Ok.ensures.sealed failed files are);
+      past = λ failed.
+          let Q : ℕ → Type 0 = λ n. IsCutPast plan told old.source.place n (sealed_blocks pass') in
+          subst Q (sym c.write_block.ensures.space)
+          (cut_past plan told old.source.place old.block.items old.held c.args.end (sealed_blocks pass)
+          (sealed_blocks pass') filled (plan_place old.source).total c.in-Ok.ensures.sealed);
     }
 
 pub returns-in-Err-clause-feeds : goal.returns-in-Err-clause-feeds

@@ -1,12 +1,9 @@
-use Rattle.std.proofs.Common.{refl, ◌≡◌, length, sym, ap, ◌∙◌, subst}
-use Rattle.psr_base.specs.Told.{Told}
+use Rattle.std.proofs.Common.{refl, length, ap, ◌∙◌}
 use Rattle.ring_ends.specs.declared.passes.WriterPass.{WriterPass}
 use Rattle.ring_ends.specs.Passes.{writer_knows}
-use Rattle.disk_feeder.specs.declared.source.Source.{Source}
-use Rattle.disk_feeder.specs.Plan.{Plan}
-use Rattle.disk_feeder.specs.History.{Running, ReadsUpTo}
+use Rattle.disk_feeder.specs.History.{Running}
 use Rattle.disk_feeder.specs.Sources.{plan_of}
-use Rattle.disk_feeder.proofs.Fates.{is_last, of_fate, after_last}
+use Rattle.disk_feeder.proofs.Fates.{is_last, of_fate, reads_of, after_last}
 use Rattle.disk_feeder.specs.Turns.{sealed_headers, sealed_blocks}
 use Rattle.disk_feeder.proofs.Runs.{blocks_full}
 use Rattle.disk_feeder.proofs.Lasts.{last_given}
@@ -41,14 +38,6 @@ pub returns-in-Err-clause-feeds : goal.returns-in-Err-clause-feeds
 returns-in-Err-clause-feeds c = λ told was.
     blocks_full c.args.self.now _ told c.args.pass.now c.write_block.new.pass _ _ refl c.in-Err.ensures.kept refl refl
     refl c.requires.filling.running c.in-Err.ensures.full c.write_block.ensures.header was
-
--- the same of the files that another state of the source reads
-reads_of : (mid next : Source) (plan : Plan) (before told : Told) → mid ≡ next → plan_of next ≡ plan →
-    ReadsUpTo plan before told next.place → ReadsUpTo (plan_of mid) before told mid.place
-reads_of mid next plan before told source same reads =
-    let P : Source → Type 0 = λ x. ReadsUpTo (plan_of x) before told x.place in
-    let Q : Plan → Type 0 = λ x. ReadsUpTo x before told next.place in
-    subst P (sym source) (subst Q (sym same) reads)
 
 pub returns-in-Ok-clause-reads_on : goal.returns-in-Ok-clause-reads_on
 returns-in-Ok-clause-reads_on c = λ before told was.

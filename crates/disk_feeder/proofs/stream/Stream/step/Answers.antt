@@ -13,7 +13,7 @@ use Rattle.disk_feeder.specs.Filling.{IsFilled}
 use Rattle.disk_feeder.specs.History.{Running, fate, IsFated, ReadsUpTo, BreaksOffAt}
 use Rattle.disk_feeder.specs.Sources.{plan_of, HasMore}
 use Rattle.disk_feeder.specs.Streams.{StreamRead}
-use Rattle.disk_feeder.proofs.Fates.{goes_on, held_goes_on, at_stop, of_fate, to_fate}
+use Rattle.disk_feeder.proofs.Fates.{goes_on, held_goes_on, held_is_calm, at_stop, of_fate, to_fate}
 use Rattle.disk_feeder.proofs.Missing.{missing_of, missing_here}
 use Rattle.disk_feeder.proofs.Unopened.{not_opened}
 use Rattle.disk_feeder.proofs.Fillings.{whole_written, filled_more, filled_stopped}
@@ -126,6 +126,11 @@ returns-then-is_transfer_over-clause-reads_on g c = λ before was.
     subst P (sym c.requires.idle.running) (read_so_far old before told c.requires.idle.due c.requires.idle.running was)
 
 -- ---- a fault
+
+pub returns-in-Ok-clause-missing : goal.returns-in-Ok-clause-missing
+returns-in-Ok-clause-missing g c = λ calm due.
+    let new = c.hold.new.self in
+    absurd (held_is_calm new.held _ new.due _ ReadFault c.hold.ensures.full c.hold.ensures.more c.requires.idle.due due)
 
 pub returns-in-Err-clause-missing : goal.returns-in-Err-clause-missing
 returns-in-Err-clause-missing g c = λ calm due.

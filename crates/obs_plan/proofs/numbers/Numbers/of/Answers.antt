@@ -1,4 +1,4 @@
-use Rattle.std.proofs.Common.{◌≡◌, ◌≤◌, ◌*◌, [], ◌∷◌, Ok, refl, rules, SFits, w64}
+use Rattle.std.proofs.Common.{◌≡◌, ◌≤◌, ◌*◌, Ok, refl, rules, SFits, w64}
 use Rattle.std.specs.Prelude.{ℤ}
 use Rattle.std.specs.Int.{cast_signed, cast_unsigned}
 use Rattle.std.proofs.lemmas.Result.{err_from_is_err_and}
@@ -7,123 +7,64 @@ use Rattle.dada_model.specs.Fields.{fields_of}
 use Rattle.dada_model.specs.Observation.{observation_of}
 use Rattle.obs_plan.specs.Rows.{IsTaken}
 use Rattle.obs_plan.proofs.FoundNumbers.{held}
-use Rattle.obs_plan.proofs.Refusals.{none_taken, refused_first}
+use Rattle.obs_plan.proofs.Refusals.{refused_first}
+use Rattle.obs_plan.proofs.Refusals.AreTakenAt.{no_key, past}
 use Rattle.obs_plan.proofs.Accepted.{AreTaken, observed, accepted, narrow}
 use Rattle.obs_plan.proofs.numbers.Numbers.of.Goals as goal
 use Rattle.obs_plan.proofs.numbers.Numbers.of.Goals.{After-unsigned_abs-width_hz}
 
 pub returns-in_err-channels-clause-fault : goal.returns-in_err-channels-clause-fault
 returns-in_err-channels-clause-fault c =
-    let fields = fields_of c.args.header.now.text in
     let p = err_from_is_err_and c.from_residual.result c.from_residual.ensures.1 in
-    rw (p.1, p.2) (refused_first fields [] Nchan (Nbit ∷ Npol ∷ Ndim ∷ Tsamp ∷ Freq ∷ Bw ∷ ObsOffset ∷ []) refl tt _
-    c.in_err-channels.ensures.fault)
+    rw (p.1, p.2) (refused_first _ no_key Nchan _ refl _ c.in_err-channels.ensures.fault)
 
 pub returns-in_err-nbit-clause-fault : goal.returns-in_err-nbit-clause-fault
 returns-in_err-nbit-clause-fault c =
-    let fields = fields_of c.args.header.now.text in
     let p = err_from_is_err_and c.from_residual-in_err-nbit.result c.from_residual-in_err-nbit.ensures.1 in
-    rw (p.1, p.2) (refused_first fields (Nchan ∷ []) Nbit (Npol ∷ Ndim ∷ Tsamp ∷ Freq ∷ Bw ∷ ObsOffset ∷ []) refl
-    (none_taken fields Nchan _ c.in_ok-channels.ensures.taken, tt) _ c.in_err-nbit.ensures.fault)
+    rw (p.1, p.2) (refused_first _ (past c.in_ok-channels.ensures.taken no_key) Nbit _ refl _
+    c.in_err-nbit.ensures.fault)
 
 pub returns-in_err-npol-clause-fault : goal.returns-in_err-npol-clause-fault
 returns-in_err-npol-clause-fault c =
-    let fields = fields_of c.args.header.now.text in
     let p = err_from_is_err_and c.from_residual-in_err-npol.result c.from_residual-in_err-npol.ensures.1 in
-    rw (p.1, p.2) (refused_first fields (Nchan ∷ Nbit ∷ []) Npol (Ndim ∷ Tsamp ∷ Freq ∷ Bw ∷ ObsOffset ∷ []) refl (
-      none_taken fields Nchan _ c.in_ok-channels.ensures.taken,
-      (none_taken fields Nbit _ c.in_ok-nbit.ensures.taken, tt),
-    ) _ c.in_err-npol.ensures.fault)
+    rw (p.1, p.2) (refused_first _ (past c.in_ok-channels.ensures.taken (past c.in_ok-nbit.ensures.taken
+    no_key)) Npol _ refl _ c.in_err-npol.ensures.fault)
 
 pub returns-in_err-number_in-clause-fault : goal.returns-in_err-number_in-clause-fault
 returns-in_err-number_in-clause-fault c =
-    let fields = fields_of c.args.header.now.text in
     let p = err_from_is_err_and c.from_residual-in_err-number_in.result c.from_residual-in_err-number_in.ensures.1 in
-    rw (p.1, p.2) (refused_first fields (Nchan ∷ Nbit ∷ Npol ∷ []) Ndim (Tsamp ∷ Freq ∷ Bw ∷ ObsOffset ∷ []) refl (
-      none_taken fields Nchan _ c.in_ok-channels.ensures.taken,
-      (
-        none_taken fields Nbit _ c.in_ok-nbit.ensures.taken,
-        (none_taken fields Npol _ c.in_ok-npol.ensures.taken, tt),
-      ),
-    ) _ c.in_err-number_in.ensures.fault)
+    rw (p.1, p.2) (refused_first _ (past c.in_ok-channels.ensures.taken (past c.in_ok-nbit.ensures.taken
+    (past c.in_ok-npol.ensures.taken no_key))) Ndim _ refl _ c.in_err-number_in.ensures.fault)
 
 pub returns-in_err-sample_ns-clause-fault : goal.returns-in_err-sample_ns-clause-fault
 returns-in_err-sample_ns-clause-fault c =
-    let fields = fields_of c.args.header.now.text in
     let p = err_from_is_err_and c.from_residual-in_err-sample_ns.result c.from_residual-in_err-sample_ns.ensures.1 in
-    rw (p.1, p.2) (refused_first fields (Nchan ∷ Nbit ∷ Npol ∷ Ndim ∷ []) Tsamp (Freq ∷ Bw ∷ ObsOffset ∷ []) refl (
-      none_taken fields Nchan _ c.in_ok-channels.ensures.taken,
-      (
-        none_taken fields Nbit _ c.in_ok-nbit.ensures.taken,
-        (
-          none_taken fields Npol _ c.in_ok-npol.ensures.taken,
-          (none_taken fields Ndim _ c.in_ok-number_in.ensures.taken, tt),
-        ),
-      ),
-    ) _ c.in_err-sample_ns.ensures.fault)
+    rw (p.1, p.2) (refused_first _ (past c.in_ok-channels.ensures.taken (past c.in_ok-nbit.ensures.taken
+    (past c.in_ok-npol.ensures.taken (past c.in_ok-number_in.ensures.taken no_key)))) Tsamp _ refl _
+    c.in_err-sample_ns.ensures.fault)
 
 pub returns-in_err-centre_hz-clause-fault : goal.returns-in_err-centre_hz-clause-fault
 returns-in_err-centre_hz-clause-fault c =
-    let fields = fields_of c.args.header.now.text in
     let p = err_from_is_err_and c.from_residual-in_err-centre_hz.result c.from_residual-in_err-centre_hz.ensures.1 in
-    rw (p.1, p.2) (refused_first fields (Nchan ∷ Nbit ∷ Npol ∷ Ndim ∷ Tsamp ∷ []) Freq (Bw ∷ ObsOffset ∷ []) refl (
-      none_taken fields Nchan _ c.in_ok-channels.ensures.taken,
-      (
-        none_taken fields Nbit _ c.in_ok-nbit.ensures.taken,
-        (
-          none_taken fields Npol _ c.in_ok-npol.ensures.taken,
-          (
-            none_taken fields Ndim _ c.in_ok-number_in.ensures.taken,
-            (none_taken fields Tsamp _ c.in_ok-sample_ns.ensures.taken, tt),
-          ),
-        ),
-      ),
-    ) _ c.in_err-centre_hz.ensures.fault)
+    rw (p.1, p.2) (refused_first _ (past c.in_ok-channels.ensures.taken (past c.in_ok-nbit.ensures.taken
+    (past c.in_ok-npol.ensures.taken (past c.in_ok-number_in.ensures.taken (past
+    c.in_ok-sample_ns.ensures.taken no_key))))) Freq _ refl _ c.in_err-centre_hz.ensures.fault)
 
 pub returns-in_err-bw_hz-clause-fault : goal.returns-in_err-bw_hz-clause-fault
 returns-in_err-bw_hz-clause-fault c =
-    let fields = fields_of c.args.header.now.text in
     let p = err_from_is_err_and c.from_residual-in_err-bw_hz.result c.from_residual-in_err-bw_hz.ensures.1 in
-    rw (p.1, p.2) (refused_first fields (Nchan ∷ Nbit ∷ Npol ∷ Ndim ∷ Tsamp ∷ Freq ∷ []) Bw (ObsOffset ∷ []) refl (
-      none_taken fields Nchan _ c.in_ok-channels.ensures.taken,
-      (
-        none_taken fields Nbit _ c.in_ok-nbit.ensures.taken,
-        (
-          none_taken fields Npol _ c.in_ok-npol.ensures.taken,
-          (
-            none_taken fields Ndim _ c.in_ok-number_in.ensures.taken,
-            (
-              none_taken fields Tsamp _ c.in_ok-sample_ns.ensures.taken,
-              (none_taken fields Freq _ c.in_ok-centre_hz.ensures.taken, tt),
-            ),
-          ),
-        ),
-      ),
-    ) _ c.in_err-bw_hz.ensures.fault)
+    rw (p.1, p.2) (refused_first _ (past c.in_ok-channels.ensures.taken (past c.in_ok-nbit.ensures.taken
+    (past c.in_ok-npol.ensures.taken (past c.in_ok-number_in.ensures.taken (past
+    c.in_ok-sample_ns.ensures.taken (past c.in_ok-centre_hz.ensures.taken no_key)))))) Bw _ refl _
+    c.in_err-bw_hz.ensures.fault)
 
 pub returns-in_err-obs_offset-clause-fault : goal.returns-in_err-obs_offset-clause-fault
 returns-in_err-obs_offset-clause-fault c =
-    let fields = fields_of c.args.header.now.text in
     let p = err_from_is_err_and c.from_residual-in_err-obs_offset.result c.from_residual-in_err-obs_offset.ensures.1 in
-    rw (p.1, p.2) (refused_first fields (Nchan ∷ Nbit ∷ Npol ∷ Ndim ∷ Tsamp ∷ Freq ∷ Bw ∷ []) ObsOffset [] refl (
-      none_taken fields Nchan _ c.in_ok-channels.ensures.taken,
-      (
-        none_taken fields Nbit _ c.in_ok-nbit.ensures.taken,
-        (
-          none_taken fields Npol _ c.in_ok-npol.ensures.taken,
-          (
-            none_taken fields Ndim _ c.in_ok-number_in.ensures.taken,
-            (
-              none_taken fields Tsamp _ c.in_ok-sample_ns.ensures.taken,
-              (
-                none_taken fields Freq _ c.in_ok-centre_hz.ensures.taken,
-                (none_taken fields Bw _ c.in_ok-bw_hz.ensures.taken, tt),
-              ),
-            ),
-          ),
-        ),
-      ),
-    ) _ c.in_err-obs_offset.ensures.fault)
+    rw (p.1, p.2) (refused_first _ (past c.in_ok-channels.ensures.taken (past c.in_ok-nbit.ensures.taken
+    (past c.in_ok-npol.ensures.taken (past c.in_ok-number_in.ensures.taken (past
+    c.in_ok-sample_ns.ensures.taken (past c.in_ok-centre_hz.ensures.taken (past c.in_ok-bw_hz.ensures.taken
+    no_key))))))) ObsOffset _ refl _ c.in_err-obs_offset.ensures.fault)
 
 -- BW as it is held
 abbrev bw : After-unsigned_abs-width_hz → ℤ

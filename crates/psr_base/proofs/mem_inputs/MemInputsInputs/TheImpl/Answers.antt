@@ -1,7 +1,7 @@
 use Rattle.std.proofs.Common.{◌≡◌, ◌∙◌, rules}
 use Rattle.psr_base.specs.InMemory.{told_of, calls_of, HasNotRead}
 use Rattle.psr_base.specs.Told.{left_to_read, opened}
-use Rattle.psr_base.proofs.Tells.{at_err, at_ok, of_err, Rose-failed, count-stays, fail-stays, calm-serves, names-opened, names-read, opened-told, is_open-opened, still_open, is_open-read, GivesNext-told}
+use Rattle.psr_base.proofs.Tells.{at_err, at_ok, of_err, Rose-failed, count-stays, fail-stays, calm-serves, names-opened, names-read, opened-told, opened-earlier, is_open-opened, still_open, is_open-read, GivesNext-told}
 use Rattle.psr_base.proofs.mem_inputs.MemInputsInputs.TheImpl.Goals as goal
 
 pub open-tells : goal.open-tells
@@ -14,6 +14,7 @@ open-tells c =
     record {
       opened = opened-told c.result ((told_of old).bytes_under c.args.name.now) (told_of new
           ≡ opened c.args.name.now (told_of old)) c.ensures.opened;
+      earlier = opened-earlier c.result c.args.name.now (told_of old) (told_of new) c.ensures.opened;
       is_open = is_open-opened c.result new.files.files.items new.files.earlier.files new.files.reading
           c.args.name.now (told_of old) c.ensures.opened;
       unchanged = stands;

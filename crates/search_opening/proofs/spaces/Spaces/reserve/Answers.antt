@@ -1,5 +1,5 @@
 use Rattle.search_words.specs.Settings.{run_seen}
-use Rattle.run_stop.specs.Runs.{task_of, search_for}
+use Rattle.run_outcome.specs.Runs.{task_of, search_for}
 use Rattle.search_opening.proofs.Purposes.{some_reader}
 use Rattle.search_opening.proofs.spaces.Spaces.reserve.Goals as goal
 

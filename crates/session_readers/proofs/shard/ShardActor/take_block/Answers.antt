@@ -27,8 +27,8 @@ returns-in_default-feed_block-clause-stepped c =
     stepped_still c.args.hdu.now c.args.self.now _ c.in-Here.reader c.feed_block.new.reader c.in-Here.is refl false
     c.requires.next missed.read missed.cleared missed.bank_is refl refl refl
 
-pub end_after-requires : goal.end_after-requires
-end_after-requires c =
+pub end_or_search-requires : goal.end_or_search-requires
+end_or_search-requires c =
     let hdu = c.args.hdu.now in
     let x = c.args.self.now in
     let p = c.in-Some.ensures.passed in
@@ -48,10 +48,10 @@ returns c =
     let x = c.args.self.now in
     let p = c.in-Some.ensures.passed in
     let block : Entry = p.block in
-    let banks = (engines_of c.end_after.new.self) in
+    let banks = engines_of c.end_or_search.new.bank in
     let fed = ended_at (engines_of x.part) banks x.done block.bytes c.in-Some.taken.mark block.mark p.mark
     (fed_then_ended (engines_of x.part) (engines_of c.feed_block.new.bank) banks x.done block.bytes
-    (is_end c.in-Some.taken.mark) p.fed c.end_after.ensures) in
+    (is_end c.in-Some.taken.mark) p.fed c.end_or_search.ensures) in
     let done : x.done + c.ended_with.result ≡ x.done + (if is_end block.mark then 1 else 0) =
     ap (λ (n : ℕ). x.done + n) (c.ended_with.ensures ∙ ap (λ (m : Mark). if is_end m then 1 else 0) p.mark) in
     record {

@@ -1,0 +1,143 @@
+-- What the exit status says where a run stops before its session.
+use Rattle.std.proofs.Common.{◌≢◌, ℕ, List, [], ◌∷◌, refl, inl, inr, None, Contains, lit<, arith, ◌∙◌, sym}
+use Rattle.psr_base.specs.Told.{Told}
+use Rattle.psr_base.specs.Made.{FilesSeen}
+use Rattle.ring_ends.specs.declared.finished.Finished.{Finished}
+use Rattle.std.specs.Prelude.{Option}
+use Rattle.disk_feeder.specs.declared.answers.HeaderCause.{HeaderCause}
+use Rattle.run_outcome.specs.declared.causes.PlanCause.{PlanCause}
+use Rattle.run_outcome.specs.declared.causes.RecordingCause.{RecordingCause}
+use Rattle.run_outcome.specs.declared.stop.Stop.{Stop}
+use Rattle.run_outcome.specs.declared.stop.Stop.TheVariants.{Words, Value, Header, Plan, Recording, Memory, ReadFault, Gap, TooLong, TooMany, SinkFault, FileFault}
+use Rattle.run_outcome.specs.Texts.{status_of}
+use Rattle.run_outcome.specs.Runs.{Task, Searching, RecordingAlone, Alone, SaysOfFiles}
+use Rattle.run_outcome.specs.Outcomes.{StopsAtFiles, SealsStream, RecordsFiles}
+use Rattle.run_outcome.specs.Ends.{StopsBefore, EndsAt, WordsSayOnce}
+
+abbrev early : List ℕ
+early = 2 ∷ 3 ∷ 4 ∷ 5 ∷ 6 ∷ []
+
+module _ (task : Task) (words : List (List ℕ)) (told : Told) where
+  -- a status at which no file stops the run
+  pub none_stopped : (blocks : Option Finished) (n : ℕ) → n ≢ 3 → n ≢ 4 → n ≢ 7 → n ≢ 8 →
+      StopsAtFiles task words told blocks n
+  none_stopped blocks n three four seven eight = record {
+    first_header = λ e. absurd (three e);
+    later_header = λ e. absurd (three e);
+    plan = λ e. absurd (four e);
+    gap = λ e. absurd (seven e);
+    too_long = λ e. absurd (eight e);
+  }
+
+  -- no block was sealed
+  none_sealed : (n : ℕ) → Contains early n → SealsStream task words told None n
+  none_sealed n known = record {
+    none = λ e. known;
+    some = λ some. absurd cc;
+    begun = λ some. absurd cc;
+    passed = λ some. absurd cc;
+    sealed = λ b e. absurd cc;
+    broken = λ b e. absurd cc;
+  }
+
+  -- nothing was recorded
+  none_recorded : (n : ℕ) → n ≢ 0 → n ≢ 11 → (seen : FilesSeen) →
+      RecordsFiles task words told None None seen seen n
+  none_recorded n zeroth last seen = record {
+    before_session = λ e. (refl, refl);
+    unrecorded = λ s says off. (refl, last, refl);
+    ended = λ some. absurd cc;
+    shown = λ end e. absurd cc;
+    all = λ e. absurd (zeroth e);
+    front = λ e. absurd (last e);
+    stream = λ b e. absurd cc;
+    failed = λ e. absurd (last e);
+    rose = λ e. absurd cc;
+    quiet = λ e. refl;
+    count = omega arith;
+  }
+
+  ends_early : (n : ℕ) → Contains early n → n ≢ 0 → n ≢ 11 →
+      StopsAtFiles task words told None n →
+      (seen : FilesSeen) → EndsAt task words told None None seen seen n
+  ends_early n known zeroth last stopped seen = record {
+    stopped = stopped;
+    sealed = none_sealed n known;
+    recorded = none_recorded n zeroth last seen;
+  }
+
+  -- the first header of a transfer is refused
+  header_stopped : (file : ℕ) (cause : HeaderCause) →
+      StopsBefore task words told (Header file cause) → StopsAtFiles task words told None 3
+  header_stopped file cause b = record {
+    first_header = λ e f. (file, cause, b.says);
+    later_header = λ e some. absurd cc;
+    plan = λ e. absurd (omega (arith, e));
+    gap = λ e. absurd (omega (arith, e));
+    too_long = λ e. absurd (omega (arith, e));
+  }
+
+  plan_stopped : (cause : PlanCause) → StopsBefore task words told (Plan cause) →
+      StopsAtFiles task words told None 4
+  plan_stopped cause b = record {
+    first_header = λ e. absurd (omega (arith, e));
+    later_header = λ e. absurd (omega (arith, e));
+    plan = λ e. inl (cause, b.says);
+    gap = λ e. absurd (omega (arith, e));
+    too_long = λ e. absurd (omega (arith, e));
+  }
+
+  recording_stopped : (cause : RecordingCause) → StopsBefore task words told (Recording cause) →
+      StopsAtFiles task words told None 4
+  recording_stopped cause b = record {
+    first_header = λ e. absurd (omega (arith, e));
+    later_header = λ e. absurd (omega (arith, e));
+    plan = λ e. inr (cause, b.says);
+    gap = λ e. absurd (omega (arith, e));
+    too_long = λ e. absurd (omega (arith, e));
+  }
+
+  -- a status that says nothing of the files
+  pub ends_plainly : (n : ℕ) → Contains early n → n ≢ 3 → n ≢ 4 → n ≢ 7 → n ≢ 8 → n ≢ 0 → n ≢ 11 →
+      (seen : FilesSeen) → EndsAt task words told None None seen seen n
+  ends_plainly n known three four seven eight zeroth last =
+      ends_early n known zeroth last (none_stopped None n three four seven eight)
+
+  pub at_status : (stop : Stop) → StopsBefore task words told stop → (seen : FilesSeen) →
+      EndsAt task words told None None seen seen (status_of stop)
+  at_status Words b = absurd b.kind
+  at_status (Value opt) b = absurd b.kind
+  at_status (Header file cause) b =
+      ends_early 3 (1, lit< tt, refl) (λ e. omega (arith, e)) (λ e. omega (arith, e)) (header_stopped file cause b)
+  at_status (Plan cause) b =
+      ends_early 4 (2, lit< tt, refl) (λ e. omega (arith, e)) (λ e. omega (arith, e)) (plan_stopped cause b)
+  at_status (Recording cause) b =
+      ends_early 4 (2, lit< tt, refl) (λ e. omega (arith, e)) (λ e. omega (arith, e)) (recording_stopped cause b)
+  at_status Memory b = ends_plainly 5 (3, lit< tt, refl) (λ e. omega (arith, e)) (λ e. omega (arith, e))
+      (λ e. omega (arith, e)) (λ e. omega (arith, e)) (λ e. omega (arith, e)) (λ e. omega (arith, e))
+  at_status ReadFault b = ends_plainly 6 (4, lit< tt, refl) (λ e. omega (arith, e)) (λ e. omega (arith, e))
+      (λ e. omega (arith, e)) (λ e. omega (arith, e)) (λ e. omega (arith, e)) (λ e. omega (arith, e))
+  at_status (Gap file expected found) b = absurd b.kind
+  at_status (TooLong limit) b = absurd b.kind
+  at_status (TooMany count limit) b = absurd b.kind
+  at_status SinkFault b = absurd b.kind
+  at_status FileFault b = absurd b.kind
+
+  pub says_of : (stop : Stop) → StopsBefore task words told stop → SaysOfFiles task words told stop
+  says_of Words b = absurd b.kind
+  says_of (Value opt) b = absurd b.kind
+  says_of (Header file cause) b = inl b.says
+  says_of (Plan cause) b = b.says
+  says_of (Recording cause) b = b.says
+  says_of Memory b = tt
+  says_of ReadFault b = tt
+  says_of (Gap file expected found) b = absurd b.kind
+  says_of (TooLong limit) b = absurd b.kind
+  says_of (TooMany count limit) b = absurd b.kind
+  says_of SinkFault b = absurd b.kind
+  says_of FileFault b = absurd b.kind
+
+pub say_once : WordsSayOnce
+say_once Searching words s t a b = a.values ∙ sym b.values
+say_once RecordingAlone words s t a b = a.values ∙ sym b.values
+say_once (Alone lone) words s t a b = a.search.says.values ∙ sym b.search.says.values

@@ -1,5 +1,0 @@
-use Rattle.run_stop.proofs.Accepted.{goes_on}
-use Rattle.run_stop.proofs.ends.accepted_goes_on.Goals as goal
-
-pub returns : goal.returns
-returns g c inputs = goes_on (g.I.Inputs.is_calm inputs)

@@ -1,5 +1,0 @@
-use Rattle.run_stop.proofs.Accepted.{is_not_refused}
-use Rattle.run_stop.proofs.ends.accepted_is_not_refused.Goals as goal
-
-pub returns : goal.returns
-returns c = is_not_refused

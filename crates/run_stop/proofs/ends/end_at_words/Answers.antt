@@ -1,5 +1,0 @@
-use Rattle.run_stop.proofs.Endings.{at_words}
-use Rattle.run_stop.proofs.ends.end_at_words.Goals as goal
-
-pub returns : goal.returns
-returns g c inputs = at_words (g.I.Inputs.is_calm inputs)

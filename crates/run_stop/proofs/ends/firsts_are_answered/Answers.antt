@@ -1,5 +1,0 @@
-use Rattle.run_stop.proofs.Stopped.{firsts_answered}
-use Rattle.run_stop.proofs.ends.firsts_are_answered.Goals as goal
-
-pub returns : goal.returns
-returns g c inputs = firsts_answered c.said_is_in_range.ensures (g.I.Inputs.is_calm inputs)

@@ -1,5 +1,0 @@
-use Rattle.run_stop.proofs.Before.{say_once}
-use Rattle.run_stop.proofs.ends.words_say_once.Goals as goal
-
-pub returns : goal.returns
-returns c = say_once
