@@ -1,5 +1,5 @@
 -- What the exit status says after a session.
-use Rattle.std.proofs.Common.{◌≡◌, ◌≢◌, ◌⊎◌, ℕ, zero, suc, ◌+◌, ◌<◌, List, [], ◌∷◌, refl, inl, inr, sym, ap, ◌∙◌, subst, Some, None, Contains, lit<, arith}
+use Rattle.std.proofs.Common.{◌≡◌, ◌≢◌, ℕ, zero, suc, ◌+◌, ◌<◌, List, [], ◌∷◌, refl, inr, sym, ap, ◌∙◌, subst, Some, None, Contains, lit<, arith}
 use Rattle.std.proofs.lemmas.List.Elements.{Contains-append_left}
 use Rattle.std.specs.Prelude.{Option, IsSome, length}
 use Rattle.psr_base.specs.Told.{Told}
@@ -117,7 +117,7 @@ module _ (task : Task) (words : List (List ℕ)) (told : Told) (blocks : Finishe
   -- the files of all data are those of the stream, where more than a feeder's stop is to say
   recorded_at : (end : FeedEnd) (n : ℕ) → IsRecorded task words told blocks end answer before after →
       ((e : RecordEnd) → answer ≡ Some e → CanEndAt e n) → (n ≡ 11 → answer ≡ Some recorder.FileFault) →
-      ((n ≡ 0) ⊎ (n ≡ 11) → ForFiles task words told (λ s w.
+      (Contains (0 ∷ 9 ∷ 10 ∷ 11 ∷ []) n → ForFiles task words told (λ s w.
       files_of_stream w s.file_size (sealed_at_end blocks) ≡ files_of_data w s.file_size)) →
       RecordsFiles task words told (Some blocks) answer before after n
   recorded_at end n r can failed same = record {
@@ -131,11 +131,15 @@ module _ (task : Task) (words : List (List ℕ)) (told : Told) (blocks : Finishe
         let Made : List NamedBytes → Type 0 = λ made. MadeBy it.0 made before after in
         let w = stream_for s files in
         let whole = all_made it.0 (files_of_data w s.file_size) n zeroth (can it.0 it.1)
-        (subst Made (same (inl zeroth) s files says are)
+        (subst Made (same (0, lit< tt, sym zeroth) s files says are)
         (r.made it.0 it.1 s files says (told_at told s.names files are))) in
         (it.1 ∙ ap (λ e. Some e) whole.0, whole.1);
+    whole = λ count is s files says are. subst
+        (λ (made : List NamedBytes). MadeBy (recorder.Whole count) made before after)
+        (same (Contains-append_left (0 ∷ 9 ∷ 10 ∷ []) (11 ∷ []) n (can (recorder.Whole count) is)) s files says are)
+        (r.made (recorder.Whole count) is s files says (told_at told s.names files are));
     front = λ e s files says are. subst
-        (λ (made : List NamedBytes). MadeFront made before after) (same (inr e) s files says are)
+        (λ (made : List NamedBytes). MadeFront made before after) (same (3, lit< tt, sym e) s files says are)
         (r.made recorder.FileFault (failed e) s files says (told_at told s.names files are));
     stream = λ b e it is. subst
         (λ (x : Finished). ForFirsts task words told (λ s w.
@@ -202,13 +206,21 @@ module _ (task : Task) (words : List (List ℕ)) (told : Told) (blocks : Finishe
     });
   }
 
+  -- the status of a feeder's stop is none of those
+  not_late : (n : ℕ) → Contains (3 ∷ 6 ∷ 7 ∷ 8 ∷ []) n → ¬ Contains (0 ∷ 9 ∷ 10 ∷ 11 ∷ []) n
+  not_late n (zero, below, is) late = apart n 3 late (lit< tt) (lit< tt) (sym is)
+  not_late n (suc zero, below, is) late = apart n 6 late (lit< tt) (lit< tt) (sym is)
+  not_late n (suc (suc zero), below, is) late = apart n 7 late (lit< tt) (lit< tt) (sym is)
+  not_late n (suc (suc (suc zero)), below, is) late = apart n 8 late (lit< tt) (lit< tt) (sym is)
+  not_late n (suc (suc (suc (suc k))), below, is) late = absurd (omega (arith, below))
+
   -- a feeder's stop ends a recorder before all data, and nothing is said of these
   recorded_stopped : (end : FeedEnd) (stop : Stop) (n : ℕ) → stop_of_feed end ≡ Some stop →
-      Contains (3 ∷ 6 ∷ 7 ∷ 8 ∷ []) n → n ≢ 0 → n ≢ 11 →
+      Contains (3 ∷ 6 ∷ 7 ∷ 8 ∷ []) n →
       IsRecorded task words told blocks end answer before after →
       RecordsFiles task words told (Some blocks) answer before after n
-  recorded_stopped end stop n is known zeroth last r = recorded_at end n r (λ e at. can e (r.as_fed e at))
-      (λ e. absurd (last e)) (λ e. absurd (neither e))
+  recorded_stopped end stop n is known r = recorded_at end n r (λ e at. can e (r.as_fed e at))
+      (λ e. absurd (not_late n known (3, lit< tt, sym e))) (λ late. absurd (not_late n known late))
     where
       no_stop : None ≡ Some stop → ⊥
       no_stop e = cc
@@ -219,10 +231,6 @@ module _ (task : Task) (words : List (List ℕ)) (told : Told) (blocks : Finishe
       can recorder.FileFault any = Contains-append_left (3 ∷ 6 ∷ 7 ∷ 8 ∷ []) (9 ∷ 10 ∷ 11 ∷ []) n known
       can (recorder.BadHeader fault) never = absurd never
       can (recorder.TooLong limit) never = absurd never
-
-      neither : (n ≡ 0) ⊎ (n ≡ 11) → ⊥
-      neither (inl e) = zeroth e
-      neither (inr e) = last e
 
   -- ---- where the feeder was stopped
 
@@ -332,8 +340,7 @@ module _ (task : Task) (words : List (List ℕ)) (told : Told) (blocks : Finishe
           stopped = none_stopped task words told (Some blocks) 6 (λ e. omega (arith, e))
               (λ e. omega (arith, e)) (λ e. omega (arith, e)) (λ e. omega (arith, e));
           sealed = sealed_broken f;
-          recorded = recorded_stopped feed.ReadFault stop 6 is (1, lit< tt, refl)
-              (λ e. omega (arith, e)) (λ e. omega (arith, e)) r;
+          recorded = recorded_stopped feed.ReadFault stop 6 is (1, lit< tt, refl) r;
         },
         tt,
       )
@@ -346,8 +353,7 @@ module _ (task : Task) (words : List (List ℕ)) (told : Told) (blocks : Finishe
           sealed = sealed_at 3 (1, lit< tt, refl) (feed.BadHeader file cause) f
               (λ e. omega (arith, e)) (λ late. absurd (apart 3 3 late (lit< tt) (lit< tt) refl))
               (all_told f.at.file (feed.BadHeader file cause) f.walked);
-          recorded = recorded_stopped (feed.BadHeader file cause) stop 3 is (0, lit< tt, refl)
-              (λ e. omega (arith, e)) (λ e. omega (arith, e)) r;
+          recorded = recorded_stopped (feed.BadHeader file cause) stop 3 is (0, lit< tt, refl) r;
         },
         inr (stops_at (Header file cause) f.at.file f.names (λ s says. tt) so),
       )
@@ -361,8 +367,7 @@ module _ (task : Task) (words : List (List ℕ)) (told : Told) (blocks : Finishe
           sealed = sealed_at 7 (3, lit< tt, refl) (feed.Gap file expected found) f
               (λ e. omega (arith, e)) (λ late. absurd (apart 7 7 late (lit< tt) (lit< tt) refl))
               (all_told f.at.file (feed.Gap file expected found) f.walked);
-          recorded = recorded_stopped (feed.Gap file expected found) stop 7 is (2, lit< tt, refl)
-              (λ e. omega (arith, e)) (λ e. omega (arith, e)) r;
+          recorded = recorded_stopped (feed.Gap file expected found) stop 7 is (2, lit< tt, refl) r;
         },
         stops_at (Gap file expected found) f.at.file f.names (λ s says. tt) so,
       )
@@ -375,8 +380,7 @@ module _ (task : Task) (words : List (List ℕ)) (told : Told) (blocks : Finishe
           sealed = sealed_at 8 (4, lit< tt, refl) (feed.TooLong limit) f (λ e. omega (arith, e))
               (λ late. absurd (apart 8 8 late (lit< tt) (lit< tt) refl))
               (all_told f.at.file (feed.TooLong limit) f.walked);
-          recorded = recorded_stopped (feed.TooLong limit) stop 8 is (3, lit< tt, refl)
-              (λ e. omega (arith, e)) (λ e. omega (arith, e)) r;
+          recorded = recorded_stopped (feed.TooLong limit) stop 8 is (3, lit< tt, refl) r;
         },
         stops_at (TooLong limit) f.at.file tt (f.limit limit refl) so,
       )

@@ -49,6 +49,7 @@ module _ (task : Task) (words : List (List ℕ)) (told : Told) where
     ended = λ some. absurd cc;
     shown = λ end e. absurd cc;
     all = λ e. absurd (zeroth e);
+    whole = λ count e. absurd cc;
     front = λ e. absurd (last e);
     stream = λ b e. absurd cc;
     failed = λ e. absurd (last e);

@@ -207,9 +207,9 @@ CanEndAt (recorder.BadHeader fault) status = ⊥
 CanEndAt (recorder.TooLong limit) status = ⊥
 
 -- How the recorder of a run ended, and what it made. Before the session, and where nothing is recorded, there is none,
--- and the files stand; else there is one, at each status. At 0 it made the files of all data, and at 11, which comes
--- only if it ended with a fault, a front of those. By the first files alone, it made those of the stream that went
--- through, or a front of them if it ended with a fault. The count of faults rose exactly then.
+-- and the files stand; else there is one, at each status. If it ended whole, as at 0, it made the files of all data, and
+-- at 11, which comes only if it ended with a fault, a front of those. By the first files alone, it made those of the
+-- stream that went through, or a front of them if it ended with a fault. The count of faults rose exactly then.
 pub record RecordsFiles
     (task : Task) (words : List (List ℕ)) (told : Told) (blocks : Option Finished)
     (recorded : Option RecordEnd) (before after : FilesSeen) (status : ℕ) : Type 0 where
@@ -221,6 +221,9 @@ pub record RecordsFiles
   pub shown : (end : RecordEnd) → recorded ≡ Some end → CanEndAt end status
   pub all : status ≡ 0 → ForFiles task words told (λ s w. s.recording ≡ true →
       (recorded ≡ Some (recorder.Whole (length (files_of_data w s.file_size))))
+      × MadeAll (files_of_data w s.file_size) before after)
+  pub whole : (count : ℕ) → recorded ≡ Some (recorder.Whole count) →
+      ForFiles task words told (λ s w. (count ≡ length (files_of_data w s.file_size))
       × MadeAll (files_of_data w s.file_size) before after)
   pub front : status ≡ 11 → ForFiles task words told (λ s w.
       MadeFront (files_of_data w s.file_size) before after)
