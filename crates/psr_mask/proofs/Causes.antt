@@ -1,5 +1,5 @@
 -- From what stands against a search to its status, by the laws of how a run ends.
-use Rattle.std.proofs.Common.{◌≡◌, ◌≢◌, ◌<◌, ◌⊎◌, ℕ, zero, suc, List, [], ◌∷◌, inl, inr, sym, subst, refl, Some, None, Contains, arith}
+use Rattle.std.proofs.Common.{◌≡◌, ◌≢◌, ◌<◌, ◌⊎◌, ℕ, zero, suc, List, [], ◌∷◌, inl, inr, sym, subst, refl, Some, None, arith}
 use Rattle.std.specs.Prelude.{Option, IsSome, length, slice_index_or}
 use Rattle.psr_base.specs.Count.{Rose}
 use Rattle.psr_base.specs.Told.{Told}
@@ -30,7 +30,7 @@ use Rattle.psr_mask.specs.Outcome.{IsOutcome, SearchSeen, HasMasked, IsSearched}
 use Rattle.psr_mask.specs.Causes.{Answers, CausesAreAnswered, ToldRoomIsEnough}
 use Rattle.psr_mask.specs.declared.refusal.MaskRefusal.{MaskRefusal}
 use Rattle.psr_mask.specs.declared.refusal.MaskRefusal.TheVariants.{BadMask, OutOfRange, AllMasked}
-use Rattle.psr_mask.proofs.Statuses.{left, sealed_by_run}
+use Rattle.psr_mask.proofs.Statuses.{from_each, left, sealed_by_run}
 
 -- the bytes of all names are told
 holds_all : (told : Told) (names files : List (List ℕ)) → AreTold told names files → HoldsAll told names
@@ -127,17 +127,15 @@ module _ (words : List (List ℕ)) (is_calm : Type 0) (seen : SearchSeen) (outco
 
   pub by_mask : (blocks : Option Finished) → seen.ran.blocks ≡ blocks → Answers seen.ran.status mask_status
   by_mask (Some b) is = absurd (no_session (subst IsSome (sym is) refl))
-  by_mask None is = by_status (outcome.answered.run.sealed.none is)
-    where
-      by_status : Contains (2 ∷ 3 ∷ 4 ∷ 5 ∷ 6 ∷ mask_status ∷ []) seen.ran.status →
-          Answers seen.ran.status mask_status
-      by_status (zero, below, at) = absurd (outcome.answered.run.judged.refused (sym at) s says)
-      by_status (suc zero, below, at) = absurd (no_header is (sym at))
-      by_status (suc (suc zero), below, at) = absurd (not_accepted (outcome.answered.mask.accepted (inl (sym at))))
-      by_status (suc (suc (suc zero)), below, at) = inr (sym at)
-      by_status (suc (suc (suc (suc zero))), below, at) = absurd (no_fault calm (sym at))
-      by_status (suc (suc (suc (suc (suc zero)))), below, at) = inl (sym at)
-      by_status (suc (suc (suc (suc (suc (suc k))))), below, at) = absurd (omega (arith, below))
+  by_mask None is = from_each (λ k. seen.ran.status ≡ k → Answers seen.ran.status mask_status)
+      (2 ∷ 3 ∷ 4 ∷ 5 ∷ 6 ∷ mask_status ∷ []) seen.ran.status (outcome.answered.run.sealed.none is)
+      (λ e. absurd (outcome.answered.run.judged.refused e s says))
+      (λ e. absurd (no_header is e))
+      (λ e. absurd (not_accepted (outcome.answered.mask.accepted (inl e))))
+      (λ e. inr e)
+      (λ e. absurd (no_fault calm e))
+      (λ e. inl e)
+      refl
 
 -- ---- each cause, by all files
 

@@ -1,7 +1,7 @@
 -- How a search without masked channels ends: at its words, before all data were sealed, or with its text.
-use Rattle.std.proofs.Common.{◌≡◌, ◌≢◌, ◌⊎◌, ℕ, zero, suc, ◌≤◌, ◌<◌, Bool, List, [], ◌∷◌, ◌++◌, length, inl, inr, refl, sym, ap, ◌∙◌, subst, Some, None, Err, Contains, lit<, arith}
+use Rattle.std.proofs.Common.{◌≡◌, ◌≢◌, ◌⊎◌, ℕ, ◌≤◌, ◌<◌, Bool, false, List, [], ◌∷◌, ◌++◌, length, inl, inr, refl, sym, ap, ◌∙◌, subst, Some, None, Err, Contains, lit<, arith}
 use Rattle.std.proofs.lemmas.List.Elements.{Contains-append_left, Contains-append_right}
-use Rattle.std.specs.Prelude.{Option, IfSome, IsSome}
+use Rattle.std.specs.Prelude.{Option, IfSome, IsSome, ◌==◌}
 use Rattle.dada_model.specs.Observation.{Observation}
 use Rattle.psr_base.specs.Told.{Told, InputsSeen}
 use Rattle.psr_base.specs.Written.{SinkSeen, WroteAll, WroteFront}
@@ -20,7 +20,7 @@ use Rattle.stream_model.specs.Walk as walk
 use Rattle.stream_model.specs.Walk.{FileStream, walk_stop}
 use Rattle.disk_feeder.specs.Plan.{AreTold, AreToldAt, IsFirstFile}
 use Rattle.run_outcome.specs.declared.stop.Stop.{Stop}
-use Rattle.run_outcome.specs.declared.stop.Stop.TheVariants.{Words, Value, Header, Plan, Recording, Memory, ReadFault, Gap, TooLong, TooMany, SinkFault, FileFault}
+use Rattle.run_outcome.specs.declared.stop.Stop.TheVariants.{Plan, Recording, Memory, ReadFault, TooMany, SinkFault}
 use Rattle.run_outcome.specs.Texts.{status_of}
 use Rattle.run_outcome.specs.Conversions.{stop_of_words, stop_of_feed}
 use Rattle.run_outcome.specs.Firsts.{first_name}
@@ -43,7 +43,7 @@ use Rattle.psr_mask.specs.Outcome.{Answered, HasMasked, HasText, JudgesMask, Out
 use Rattle.psr_mask.specs.Ends.{Ends, EndsFed, EndsKept, HoldsKept, as_alone}
 use Rattle.psr_mask.specs.declared.refusal.MaskRefusal.{MaskRefusal}
 use Rattle.psr_mask.proofs.Causes.{needed_told}
-use Rattle.psr_mask.proofs.Statuses.{fault_is, whole_is}
+use Rattle.psr_mask.proofs.Statuses.{fault_is, from_each, whole_is}
 
 no_ring : IsSome {T = Finished} None → ⊥
 no_ring some = cc
@@ -94,20 +94,11 @@ module _ (words : List (List ℕ)) where
 plan_is : (words : List (List ℕ)) (told : Told) (s : SettingsSeen) (stop : Stop) →
     StopsBefore (Alone (mask_search words)) words told stop → status_of stop ≡ 4 →
     SayAlone (mask_search words) words s → IsOfPlan stop
-plan_is words told s Words b e says = absurd (omega (arith, e))
-plan_is words told s (Value opt) b e says = absurd (omega (arith, e))
-plan_is words told s (Header file cause) b e says = absurd (omega (arith, e))
 plan_is words told s (Plan cause) b e says = (cause, refl)
 plan_is words told s (Recording cause) b e says =
     let on = (b.says.0 s says).records in
     let off = says.search.one.unrecorded in absurd cc
-plan_is words told s Memory b e says = absurd (omega (arith, e))
-plan_is words told s ReadFault b e says = absurd (omega (arith, e))
-plan_is words told s (Gap file expected found) b e says = absurd (omega (arith, e))
-plan_is words told s (TooLong limit) b e says = absurd (omega (arith, e))
-plan_is words told s (TooMany count limit) b e says = absurd (omega (arith, e))
-plan_is words told s SinkFault b e says = absurd (omega (arith, e))
-plan_is words told s FileFault b e says = absurd (omega (arith, e))
+plan_is words told s stop b e says = absurd (omega (arith, e))
 
 -- the engine of a run that went through has searched the channels that the mask keeps
 pub holds : (words : List (List ℕ)) (told : Told) (s0 : SettingsSeen) (found : LoneFound)
@@ -399,16 +390,7 @@ module _ (words : List (List ℕ)) (inputs : InputsSeen) (is_calm : Type 0) wher
       at_text before after (Some SinkFault) (few, wrote) = broken_off before after few wrote
       at_text before after (Some (TooMany n limit)) (total, most, many, same) =
           crowded before after n limit total most many same
-      at_text before after (Some Words) e = absurd e
-      at_text before after (Some (Value opt)) e = absurd e
-      at_text before after (Some (Header file cause)) e = absurd e
-      at_text before after (Some (Plan cause)) e = absurd e
-      at_text before after (Some (Recording cause)) e = absurd e
-      at_text before after (Some Memory) e = absurd e
-      at_text before after (Some ReadFault) e = absurd e
-      at_text before after (Some (Gap file expected found)) e = absurd e
-      at_text before after (Some (TooLong limit)) e = absurd e
-      at_text before after (Some FileFault) e = absurd e
+      at_text before after stop e = absurd e
 
     pub after_session : AloneAtFeedStop is_calm → AloneAfterWhole is_calm → SettingsInRange s0.search →
         (before after : SinkSeen) (stop : Option Stop) →
@@ -435,15 +417,8 @@ abbrev ring_statuses : List ℕ
 ring_statuses = 0 ∷ 3 ∷ 6 ∷ 7 ∷ 8 ∷ 9 ∷ 10 ∷ 12 ∷ []
 
 with_ring : Contains ring_statuses 5 → ⊥
-with_ring (zero, below, is) = omega (arith, is)
-with_ring (suc zero, below, is) = omega (arith, is)
-with_ring (suc (suc zero), below, is) = omega (arith, is)
-with_ring (suc (suc (suc zero)), below, is) = omega (arith, is)
-with_ring (suc (suc (suc (suc zero))), below, is) = omega (arith, is)
-with_ring (suc (suc (suc (suc (suc zero)))), below, is) = omega (arith, is)
-with_ring (suc (suc (suc (suc (suc (suc zero))))), below, is) = omega (arith, is)
-with_ring (suc (suc (suc (suc (suc (suc (suc zero)))))), below, is) = omega (arith, is)
-with_ring (suc (suc (suc (suc (suc (suc (suc (suc k))))))), below, is) = omega (arith, below)
+with_ring there =
+    let other = from_each (λ k. (k == 5) ≡ false) ring_statuses 5 there refl refl refl refl refl refl refl refl in cc
 
 -- it comes before there is a data ring
 pub memory_is_early : (words : List (List ℕ)) (inputs : InputsSeen) (is_calm : Type 0) (before after : SinkSeen)
