@@ -1,7 +1,7 @@
 -- How the search of a part ends: at its words or its checkpoint, before all data were sealed, or with its text.
-use Rattle.std.proofs.Common.{◌≡◌, ◌≢◌, ℕ, zero, suc, ◌≤◌, ◌<◌, List, [], ◌∷◌, ◌++◌, refl, sym, ap, ◌∙◌, subst, Some, None, Contains, lit<, arith}
+use Rattle.std.proofs.Common.{◌≡◌, ◌≢◌, ℕ, ◌≤◌, ◌<◌, Bool, true, false, List, [], ◌∷◌, ◌++◌, refl, sym, ap, ◌∙◌, subst, Some, None, Contains, lit<, arith}
 use Rattle.std.proofs.lemmas.List.Elements.{Contains-append_left, Contains-append_right}
-use Rattle.std.specs.Prelude.{Option, IfSome, Err}
+use Rattle.std.specs.Prelude.{Option, IfSome, Err, nat_le, ◌==◌, ◌&&◌, ◌||◌}
 use Rattle.std.specs.Option.{ForSome}
 use Rattle.dada_model.specs.Observation.{Observation}
 use Rattle.psr_base.specs.Told.{Told, InputsSeen}
@@ -22,7 +22,7 @@ use Rattle.warm_restart.specs.declared.checkpoint.CheckpointFault.TheVariants as
 use Rattle.warm_restart.specs.Checkpoint.{IsJudged}
 use Rattle.warm_restart.specs.Warm.{text_of_part}
 use Rattle.run_outcome.specs.declared.stop.Stop.{Stop}
-use Rattle.run_outcome.specs.declared.stop.Stop.TheVariants.{Words, Value, Header, Plan, Recording, Memory, ReadFault, Gap, TooLong, TooMany, SinkFault, FileFault}
+use Rattle.run_outcome.specs.declared.stop.Stop.TheVariants.{Memory, ReadFault, TooMany, SinkFault}
 use Rattle.run_outcome.specs.Texts.{status_of}
 use Rattle.run_outcome.specs.Conversions.{stop_of_words, stop_of_feed}
 use Rattle.run_outcome.specs.Lone.{SayAlone, ExplainsAlone}
@@ -38,35 +38,23 @@ use Rattle.psr_part.specs.Texts.{stop_of_checkpoint, end_status, statuses}
 use Rattle.psr_part.specs.Part.{until_in, check_names, check_text_of, GoesOnFrom, spectra_in, part_search, searching, ForPart}
 use Rattle.psr_part.specs.Outcome.{WritesPart, IsCrowded, HasText, IsRefused, TellsPart, later_statuses, Outcome}
 use Rattle.psr_part.specs.Ends.{spectra_of, count_of, FitsPart, EndsText, EndsFed, IsPartSaid, Ends}
+use Rattle.psr_part.proofs.Statuses.{from_each}
 
 -- ---- statuses
 
-abbrev IsEarly : ℕ → Type 0
-IsEarly n = (n ≢ 2) × (n ≢ 5) × (n ≢ 6) × (n ≢ 13)
+-- whether a status comes after the checkpoint is accepted
+abbrev is_later : ℕ → Bool
+is_later k = k == 0 || k == 3 || k == 4 || (nat_le 7 k && nat_le k 10)
 
--- those that come after the checkpoint is accepted are none of these
-pub later_apart : (n : ℕ) → Contains later_statuses n → IsEarly n
-later_apart n (zero, below, is) = subst IsEarly is
-    ((λ e. omega (arith, e)), (λ e. omega (arith, e)), (λ e. omega (arith, e)), (λ e. omega (arith, e)))
-later_apart n (suc zero, below, is) = subst IsEarly is
-    ((λ e. omega (arith, e)), (λ e. omega (arith, e)), (λ e. omega (arith, e)), (λ e. omega (arith, e)))
-later_apart n (suc (suc zero), below, is) = subst IsEarly is
-    ((λ e. omega (arith, e)), (λ e. omega (arith, e)), (λ e. omega (arith, e)), (λ e. omega (arith, e)))
-later_apart n (suc (suc (suc zero)), below, is) = subst IsEarly is
-    ((λ e. omega (arith, e)), (λ e. omega (arith, e)), (λ e. omega (arith, e)), (λ e. omega (arith, e)))
-later_apart n (suc (suc (suc (suc zero))), below, is) = subst IsEarly is
-    ((λ e. omega (arith, e)), (λ e. omega (arith, e)), (λ e. omega (arith, e)), (λ e. omega (arith, e)))
-later_apart n (suc (suc (suc (suc (suc zero)))), below, is) = subst IsEarly is
-    ((λ e. omega (arith, e)), (λ e. omega (arith, e)), (λ e. omega (arith, e)), (λ e. omega (arith, e)))
-later_apart n (suc (suc (suc (suc (suc (suc zero))))), below, is) = subst IsEarly is
-    ((λ e. omega (arith, e)), (λ e. omega (arith, e)), (λ e. omega (arith, e)), (λ e. omega (arith, e)))
-later_apart n (suc (suc (suc (suc (suc (suc (suc k)))))), below, is) = absurd (omega (arith, below))
+not_later : (n : ℕ) → is_later n ≡ false → ¬ Contains later_statuses n
+not_later n is there =
+    let later = from_each (λ k. is_later k ≡ true) later_statuses n there refl refl refl refl refl refl refl in cc
 
 -- words that are refused stop a search before its checkpoint
 word_apart : (f : WordFault) → Contains later_statuses (status_of (stop_of_words f)) → ⊥
-word_apart word.Refused h = (later_apart 2 h).0 refl
-word_apart (word.OutOfRange opt) h = (later_apart 2 h).0 refl
-word_apart word.Memory h = (later_apart 5 h).1 refl
+word_apart word.Refused = not_later 2 refl
+word_apart (word.OutOfRange opt) = not_later 2 refl
+word_apart word.Memory = not_later 5 refl
 
 -- nor are they a fault of the inputs
 no_fault : (f : WordFault) → status_of (stop_of_words f) ≢ 6
@@ -145,7 +133,7 @@ module _ (words : List (List ℕ)) (inputs : InputsSeen) (is_calm : Type 0) wher
       Ends words inputs is_calm before after (Some (Refused refusal)) blocks
   at_refusal from blocks refusal before after run refused same = record {
     from = from;
-    accepted = λ later. absurd ((later_apart 13 later).3 refl);
+    accepted = λ later. absurd (not_later 13 refl later);
     held = λ calm check six. absurd (omega (arith, six));
     known = (10, lit< tt, refl);
     written = none_written words from inputs.told 13 before after (λ is. omega (arith, is)) (λ is. omega (arith, is))
@@ -171,7 +159,7 @@ module _ (words : List (List ℕ)) (inputs : InputsSeen) (is_calm : Type 0) wher
       (at_stop no_checkpoint None ReadFault out out
       (before 13 lone words s inputs ReadFault (says no_checkpoint)
       (record { kind = tt; says = tt }) (failed refl))
-      (λ later. absurd ((later_apart 6 later).2 refl)) (λ calm check six. absurd (held refl calm check)) refl)
+      (λ later. absurd (not_later 6 refl later)) (λ calm check six. absurd (held refl calm check)) refl)
   at_checkpoint before own s until same says check.Form failed held quiet judged late stop is out =
       let lone = part_search words no_checkpoint in
       subst (λ (x : PartStop). Ends words inputs is_calm out out (Some x) None) (sym is)
@@ -329,26 +317,12 @@ module _ (words : List (List ℕ)) (inputs : InputsSeen) (is_calm : Type 0) wher
           crowded before after count limit within total most many same
       at_text before after (Some (Refused (Beyond place spectra))) (at, has, less, same) =
           behind before after place spectra at has less same
-      at_text before after (Some (Refused Form)) e = absurd e
-      at_text before after (Some (Refused (Place place until))) e = absurd e
-      at_text before after (Some (Run Words)) e = absurd e
-      at_text before after (Some (Run (Value opt))) e = absurd e
-      at_text before after (Some (Run (Header file cause))) e = absurd e
-      at_text before after (Some (Run (Plan cause))) e = absurd e
-      at_text before after (Some (Run (Recording cause))) e = absurd e
-      at_text before after (Some (Run Memory)) e = absurd e
-      at_text before after (Some (Run ReadFault)) e = absurd e
-      at_text before after (Some (Run (Gap file expected found))) e = absurd e
-      at_text before after (Some (Run (TooLong limit))) e = absurd e
-      at_text before after (Some (Run FileFault)) e = absurd e
+      at_text before after stop e = absurd e
 
     -- all data were sealed where the feeder has no stop
     whole_is : (e : FeedEnd) → stop_of_feed e ≡ None → (count : ℕ) × (e ≡ feed.Whole count)
     whole_is (feed.Whole count) is = (count, refl)
-    whole_is feed.ReadFault is = absurd cc
-    whole_is (feed.BadHeader file cause) is = absurd cc
-    whole_is (feed.Gap file expected found) is = absurd cc
-    whole_is (feed.TooLong limit) is = absurd cc
+    whole_is e is = absurd cc
 
     -- what is known once all data were sealed
     pub record IsFound (before after : SinkSeen) (stop : Option PartStop) : Type 0 where
