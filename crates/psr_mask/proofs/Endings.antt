@@ -1,7 +1,7 @@
 -- How a search without masked channels ends: at its words, before all data were sealed, or with its text.
-use Rattle.std.proofs.Common.{◌≡◌, ◌≢◌, ◌⊎◌, ℕ, zero, suc, ◌≤◌, ◌<◌, Bool, List, [], ◌∷◌, ◌++◌, length, inl, inr, refl, sym, ap, ◌∙◌, subst, Some, None, Err, Contains, lit<, arith}
+use Rattle.std.proofs.Common.{◌≡◌, ◌≢◌, ◌⊎◌, ℕ, ◌≤◌, ◌<◌, Bool, false, List, [], ◌∷◌, ◌++◌, length, inl, inr, refl, sym, ap, ◌∙◌, subst, Some, None, Err, Contains, lit<, arith}
 use Rattle.std.proofs.lemmas.List.Elements.{Contains-append_left, Contains-append_right}
-use Rattle.std.specs.Prelude.{Option, IfSome, IsSome}
+use Rattle.std.specs.Prelude.{Option, IfSome, IsSome, ◌==◌}
 use Rattle.dada_model.specs.Observation.{Observation}
 use Rattle.psr_base.specs.Told.{Told, InputsSeen}
 use Rattle.psr_base.specs.Written.{SinkSeen, WroteAll, WroteFront}
@@ -20,13 +20,13 @@ use Rattle.stream_model.specs.Walk as walk
 use Rattle.stream_model.specs.Walk.{FileStream, walk_stop}
 use Rattle.disk_feeder.specs.Plan.{AreTold, AreToldAt, IsFirstFile}
 use Rattle.run_outcome.specs.declared.stop.Stop.{Stop}
-use Rattle.run_outcome.specs.declared.stop.Stop.TheVariants.{Words, Value, Header, Plan, Recording, Memory, ReadFault, Gap, TooLong, TooMany, SinkFault, FileFault}
+use Rattle.run_outcome.specs.declared.stop.Stop.TheVariants.{Plan, Recording, Memory, ReadFault, TooMany, SinkFault}
 use Rattle.run_outcome.specs.Texts.{status_of}
 use Rattle.run_outcome.specs.Conversions.{stop_of_words, stop_of_feed}
 use Rattle.run_outcome.specs.Firsts.{first_name}
 use Rattle.run_outcome.specs.Lone.{SayAlone}
 use Rattle.run_outcome.specs.Outcomes.{BreaksFirsts}
-use Rattle.run_outcome.specs.Runs.{Alone, CanBegin, ForFirsts, OfEachFirst, first_observation, stream_for}
+use Rattle.run_outcome.specs.Runs.{Alone, CanBegin, OfEachFirst, first_observation, stream_for}
 use Rattle.run_outcome.specs.Ends.{CountsFaults, StopsBefore, WordsSayOnce, short_statuses}
 use Rattle.search_opening.specs.Plans.{IsOfPlan}
 use Rattle.drive_lone.specs.declared.found.LoneFound.{LoneFound}
@@ -39,14 +39,11 @@ use Rattle.drive_lone.specs.Outcomes.{RunsAlone, EndsAlone}
 use Rattle.drive_lone.specs.EndLaws.{AloneBeforeSession, AloneAtOwnStop, AloneAtFeedStop, AloneAfterWhole, GoesThrough}
 use Rattle.psr_mask.specs.Masking.{ForMask, AcceptsMask, AcceptsMaskWord, RefusesMask, RefusesMaskWord, ScopesMask, mask_search, mask_word, masked_list, text_without}
 use Rattle.psr_mask.specs.Notes.{mask_status, end_status}
-use Rattle.psr_mask.specs.Outcome.{Answered, HasMasked, HasText, JudgesMask, Outcome, TellsMask, WritesMasked}
+use Rattle.psr_mask.specs.Outcome.{Answered, HasMasked, HasText, Outcome, TellsMask, WritesMasked}
 use Rattle.psr_mask.specs.Ends.{Ends, EndsFed, EndsKept, HoldsKept, as_alone}
 use Rattle.psr_mask.specs.declared.refusal.MaskRefusal.{MaskRefusal}
 use Rattle.psr_mask.proofs.Causes.{needed_told}
-use Rattle.psr_mask.proofs.Statuses.{fault_is, whole_is}
-
-no_ring : IsSome {T = Finished} None → ⊥
-no_ring some = cc
+use Rattle.psr_mask.proofs.Statuses.{fault_is, from_each, statuses, whole_is}
 
 -- the statuses of a search whose data were all sealed
 abbrev late_statuses : List ℕ
@@ -61,53 +58,25 @@ is_crowded = (1, lit< tt, refl)
 is_broken_off : Contains late_statuses 10
 is_broken_off = (2, lit< tt, refl)
 
-module _ (words : List (List ℕ)) where
-  -- what was told of the files that the words name
-  pub for_settings : (told : Told) → WordsSayOnce → (s0 : SettingsSeen) →
-      SayAlone (mask_search words) words s0 → (P : SettingsSeen → FileStream → Type 0) →
-      ((files : List (List ℕ)) → AreTold told s0.names files → P s0 (stream_for s0 files)) → ForMask words told P
-  for_settings told once s0 says0 P holds s files says are =
-      subst (λ (t : SettingsSeen). (files : List (List ℕ)) → AreTold told t.names files → P t (stream_for t files))
-      (once (Alone (mask_search words)) words s0 s says0 says) holds files are
-
-  -- and that of the first
-  for_first : (told : Told) → WordsSayOnce → (s0 : SettingsSeen) → SayAlone (mask_search words) words s0 →
-      (P : FileStream → Type 0) →
-      ((files : List (List ℕ)) → AreToldAt (IsFirstFile s0.starts (length s0.names)) told s0.names files →
-      P (stream_for s0 files)) → ForFirsts (Alone (mask_search words)) words told (λ s w. P w)
-  for_first told once s0 says0 P holds s files says are =
-      subst (λ (t : SettingsSeen). (files : List (List ℕ)) →
-      AreToldAt (IsFirstFile t.starts (length t.names)) told t.names files → P (stream_for t files))
-      (once (Alone (mask_search words)) words s0 s says0 says) holds files are
-
-  none_written : (told : Told) (n : ℕ) (before after : SinkSeen) → n ≢ 0 → n ≢ 10 → after ≡ before →
-      WritesMasked words told before after n
-  none_written told n before after zeroth tenth same = record {
-    text = λ e. absurd (zeroth e);
-    front = λ e. absurd (tenth e);
-    failed = λ e. absurd (tenth e);
-    quiet = λ e. ap (λ (s : SinkSeen). s.faults) same;
-    untouched = λ e f. same;
-  }
+none_written : (words : List (List ℕ)) (told : Told) (n : ℕ) (before after : SinkSeen) → n ≢ 0 → n ≢ 10 →
+    after ≡ before → WritesMasked words told before after n
+none_written words told n before after zeroth tenth same = record {
+  text = λ e. absurd (zeroth e);
+  front = λ e. absurd (tenth e);
+  failed = λ e. absurd (tenth e);
+  quiet = λ e. ap (λ (s : SinkSeen). s.faults) same;
+  untouched = λ e f. same;
+}
 
 -- a plan that is refused, and no recording: a search alone makes none
 plan_is : (words : List (List ℕ)) (told : Told) (s : SettingsSeen) (stop : Stop) →
     StopsBefore (Alone (mask_search words)) words told stop → status_of stop ≡ 4 →
     SayAlone (mask_search words) words s → IsOfPlan stop
-plan_is words told s Words b e says = absurd (omega (arith, e))
-plan_is words told s (Value opt) b e says = absurd (omega (arith, e))
-plan_is words told s (Header file cause) b e says = absurd (omega (arith, e))
 plan_is words told s (Plan cause) b e says = (cause, refl)
 plan_is words told s (Recording cause) b e says =
     let on = (b.says.0 s says).records in
     let off = says.search.one.unrecorded in absurd cc
-plan_is words told s Memory b e says = absurd (omega (arith, e))
-plan_is words told s ReadFault b e says = absurd (omega (arith, e))
-plan_is words told s (Gap file expected found) b e says = absurd (omega (arith, e))
-plan_is words told s (TooLong limit) b e says = absurd (omega (arith, e))
-plan_is words told s (TooMany count limit) b e says = absurd (omega (arith, e))
-plan_is words told s SinkFault b e says = absurd (omega (arith, e))
-plan_is words told s FileFault b e says = absurd (omega (arith, e))
+plan_is words told s stop b e says = absurd (omega (arith, e))
 
 -- the engine of a run that went through has searched the channels that the mask keeps
 pub holds : (words : List (List ℕ)) (told : Told) (s0 : SettingsSeen) (found : LoneFound)
@@ -133,6 +102,10 @@ module _ (words : List (List ℕ)) (inputs : InputsSeen) (is_calm : Type 0) wher
   -- where the plan is refused, and once there is a data ring, the mask is accepted
   abbrev Accepts : Option Finished → ℕ → Type 0
   Accepts blocks n = (n ≡ 4) ⊎ IsSome blocks → AcceptsMaskWord words inputs.told
+
+  accepts_early : (n : ℕ) → (n ≡ 4 → AcceptsMaskWord words inputs.told) → Accepts None n
+  accepts_early n at_plan (inl four) = at_plan four
+  accepts_early n at_plan (inr some) = absurd cc
 
   -- calm inputs that hold the first file fail where there is one
   abbrev Holds : Option Finished → ℕ → Type 0
@@ -164,22 +137,15 @@ module _ (words : List (List ℕ)) (inputs : InputsSeen) (is_calm : Type 0) wher
       EndsAlone mask_status (mask_search words) words inputs is_calm None stop →
       Ends words inputs is_calm out out (Some (Run stop)) None
   at_words fault stop out is e =
-      at_short None stop out out e (λ why. absurd (not_accepted why))
-      (λ calm s says there six. absurd (no_fault fault (sym (ap status_of is) ∙ six))) refl
+      at_short None stop out out e
+      (accepts_early (status_of stop) (λ four. absurd ((apart fault).0 (sym (ap status_of is) ∙ four))))
+      (λ calm s says there six. absurd ((apart fault).1 (sym (ap status_of is) ∙ six))) refl
     where
-      no_fault : (f : WordFault) → status_of (stop_of_words f) ≢ 6
-      no_fault words_fault.Refused six = omega (arith, six)
-      no_fault (words_fault.OutOfRange opt) six = omega (arith, six)
-      no_fault words_fault.Memory six = omega (arith, six)
-
-      other : (f : WordFault) → status_of (stop_of_words f) ≢ 4
-      other words_fault.Refused four = omega (arith, four)
-      other (words_fault.OutOfRange opt) four = omega (arith, four)
-      other words_fault.Memory four = omega (arith, four)
-
-      not_accepted : (status_of stop ≡ 4) ⊎ IsSome {T = Finished} None → ⊥
-      not_accepted (inl four) = other fault (sym (ap status_of is) ∙ four)
-      not_accepted (inr some) = no_ring some
+      -- the plan was not refused, and the inputs did not fail
+      apart : (f : WordFault) → (status_of (stop_of_words f) ≢ 4) × (status_of (stop_of_words f) ≢ 6)
+      apart words_fault.Refused = ((λ e. omega (arith, e)), (λ e. omega (arith, e)))
+      apart (words_fault.OutOfRange opt) = ((λ e. omega (arith, e)), (λ e. omega (arith, e)))
+      apart words_fault.Memory = ((λ e. omega (arith, e)), (λ e. omega (arith, e)))
 
   -- ---- between the words and the session
 
@@ -191,12 +157,9 @@ module _ (words : List (List ℕ)) (inputs : InputsSeen) (is_calm : Type 0) wher
         Ends words inputs is_calm out out (Some (Run stop)) None
     run_before law stop out stops read after broken =
         at_short None stop out out (law mask_status (mask_search words) words s0 inputs stop says0 stops.0 read)
-        accepted held refl
+        (accepts_early (status_of stop) (λ four. stops.1 (plan_is words inputs.told s0 stop stops.0 four says0)))
+        held refl
       where
-        accepted : Accepts None (status_of stop)
-        accepted (inl four) = stops.1 (plan_is words inputs.told s0 stop stops.0 four says0)
-        accepted (inr some) = absurd (no_ring some)
-
         held : Holds None (status_of stop)
         held calm s says there six =
             let b = broken (fault_is stop six) s says in
@@ -216,17 +179,13 @@ module _ (words : List (List ℕ)) (inputs : InputsSeen) (is_calm : Type 0) wher
         run = law mask_status (mask_search words) words s0 inputs (lit< tt) says0 read;
         mask = record {
           refused = λ e. (refl, refusal, refused);
-          accepted = not_accepted;
+          accepted = accepts_early 12 (λ four. absurd (omega (arith, four)));
         };
         held = λ calm s says there six. absurd (omega (arith, six));
         too_many = λ e. absurd (omega (arith, e));
       };
       said = refused;
     }
-      where
-        not_accepted : Accepts None 12
-        not_accepted (inl four) = absurd (omega (arith, four))
-        not_accepted (inr some) = absurd (no_ring some)
 
     pub before_session : AloneBeforeSession is_calm → AloneAtOwnStop is_calm → (stop : LoneStop MaskRefusal)
         (out : SinkSeen) →
@@ -247,18 +206,30 @@ module _ (words : List (List ℕ)) (inputs : InputsSeen) (is_calm : Type 0) wher
     abbrev text : List ℕ
     text = mask_word words
 
+    -- what holds of these settings holds of those that the words say
+    of_said : (Q : SettingsSeen → Type 0) → Q s0 → (s : SettingsSeen) → SayAlone (mask_search words) words s → Q s
+    of_said Q q s says = subst Q (once (Alone (mask_search words)) words s0 s through.says says) q
+
+    for_settings : (P : SettingsSeen → FileStream → Type 0) →
+        ((files : List (List ℕ)) → AreTold inputs.told s0.names files → P s0 (stream_for s0 files)) →
+        ForMask words inputs.told P
+    for_settings P holds s files says =
+        of_said (λ t. (files : List (List ℕ)) → AreTold inputs.told t.names files → P t (stream_for t files)) holds s
+        says files
+
     accepts : AcceptsMaskWord words inputs.told
     accepts = record {
       observation = found.observation;
       range = is.range;
       holds = is.scoped.accepted;
       first = (
-        λ s says. subst (λ (t : SettingsSeen). OfEachFirst inputs.told t (SaysObservation found.observation))
-            (once (Alone (mask_search words)) words s0 s through.says says) is.says,
-        for_first words inputs.told once s0 through.says (BeginsWith found.observation) (λ files are. record {
-          walked = (through.fed.begun.1 s0 files through.says are).accepted;
-          is = is.first files are;
-        }),
+        of_said (λ t. OfEachFirst inputs.told t (SaysObservation found.observation)) is.says,
+        λ s files says. of_said (λ t. (files : List (List ℕ)) →
+            AreToldAt (IsFirstFile t.starts (length t.names)) inputs.told t.names files →
+            BeginsWith found.observation (stream_for t files)) (λ files are. record {
+              walked = (through.fed.begun.1 s0 files through.says are).accepted;
+              is = is.first files are;
+            }) s says files,
       );
     }
 
@@ -310,7 +281,7 @@ module _ (words : List (List ℕ)) (inputs : InputsSeen) (is_calm : Type 0) wher
       counts : (n : ℕ) → Contains late_statuses n → (P : SettingsSeen → ℕ → Type 0) → P s0 (length list) →
           ForMask words inputs.told (λ s w. HasMasked words s w (P s))
       counts n known P p =
-          for_settings words inputs.told once s0 through.says (λ s w. HasMasked words s w (P s)) (λ files are.
+          for_settings (λ s w. HasMasked words s w (P s)) (λ files are.
           let b = (late n known).1 s0 files through.says are in
           record {
             begins = b.0;
@@ -320,78 +291,65 @@ module _ (words : List (List ℕ)) (inputs : InputsSeen) (is_calm : Type 0) wher
 
       has_text : (n : ℕ) → Contains late_statuses n → (P : List ℕ → Type 0) →
           length list ≤ s0.search.max_candidates → P lines → ForMask words inputs.told (HasText words P)
-      has_text n known P few p = for_settings words inputs.told once s0 through.says (HasText words P) (λ files are. (
+      has_text n known P few p = for_settings (HasText words P) (λ files are. (
         counts n known (λ s total. total ≤ s.search.max_candidates) few s0 files through.says are,
         subst P (lines_are files are) p,
       ))
 
-      judges : (n : ℕ) → n ≢ 12 → JudgesMask words inputs.told (Some found.blocks) n
-      judges n other = record { refused = λ e. absurd (other e); accepted = λ why. accepts }
+      -- what each of their statuses says
+      late_answered : (before after : SinkSeen) (n : ℕ) → Contains late_statuses n → n ≢ 12 →
+          WritesMasked words inputs.told before after n →
+          (n ≡ 9 → ForMask words inputs.told (λ s w. HasMasked words s w (λ total. s.search.max_candidates < total))) →
+          Answered words inputs is_calm before after (Some found.blocks) n
+      late_answered before after n at other written many = record {
+        known = from_each (Contains statuses) late_statuses n at (0, lit< tt, refl) (8, lit< tt, refl)
+            (9, lit< tt, refl) (10, lit< tt, refl);
+        written = written;
+        run = (late n at).0;
+        mask = record { refused = λ e. absurd (other e); accepted = λ why. accepts };
+        held = λ calm s says there six. refl;
+        too_many = many;
+      }
 
       -- the whole text, or its front, or no text
       done : (before after : SinkSeen) → length list ≤ s0.search.max_candidates → WroteAll lines before after →
           Ends words inputs is_calm before after None (Some found.blocks)
-      done before after few wrote =
-          record {
-            answered = record {
-              known = (0, lit< tt, refl);
-              written = record {
-                text = λ e. has_text 0 is_done (λ t. WroteAll t before after) few wrote;
-                front = λ e. absurd (omega (arith, e));
-                failed = λ e. absurd (omega (arith, e));
-                quiet = λ e. wrote.faults;
-                untouched = λ e. absurd (e refl);
-              };
-              run = (late 0 is_done).0;
-              mask = judges 0 (λ e. omega (arith, e));
-              held = λ calm s says there six. refl;
-              too_many = λ e. absurd (omega (arith, e));
-            };
-            said = tt;
-          }
+      done before after few wrote = record {
+        answered = late_answered before after 0 is_done (λ e. omega (arith, e)) (record {
+          text = λ e. has_text 0 is_done (λ t. WroteAll t before after) few wrote;
+          front = λ e. absurd (omega (arith, e));
+          failed = λ e. absurd (omega (arith, e));
+          quiet = λ e. wrote.faults;
+          untouched = λ e. absurd (e refl);
+        }) (λ e. absurd (omega (arith, e)));
+        said = tt;
+      }
 
       broken_off : (before after : SinkSeen) → length list ≤ s0.search.max_candidates → WroteFront lines before after →
           Ends words inputs is_calm before after (Some (Run SinkFault)) (Some found.blocks)
-      broken_off before after few wrote =
-          record {
-            answered = record {
-              known = (9, lit< tt, refl);
-              written = record {
-                text = λ e. absurd (omega (arith, e));
-                front = λ e. has_text 10 is_broken_off (λ t. WroteFront t before after) few wrote;
-                failed = λ e. wrote.rose;
-                quiet = λ e. absurd (e refl);
-                untouched = λ e f. absurd (f refl);
-              };
-              run = (late 10 is_broken_off).0;
-              mask = judges 10 (λ e. omega (arith, e));
-              held = λ calm s says there six. refl;
-              too_many = λ e. absurd (omega (arith, e));
-            };
-            said = (tt, tt);
-          }
+      broken_off before after few wrote = record {
+        answered = late_answered before after 10 is_broken_off (λ e. omega (arith, e)) (record {
+          text = λ e. absurd (omega (arith, e));
+          front = λ e. has_text 10 is_broken_off (λ t. WroteFront t before after) few wrote;
+          failed = λ e. wrote.rose;
+          quiet = λ e. absurd (e refl);
+          untouched = λ e f. absurd (f refl);
+        }) (λ e. absurd (omega (arith, e)));
+        said = (tt, tt);
+      }
 
       crowded : (before after : SinkSeen) (n limit : ℕ) → length list ≡ n → limit ≡ s0.search.max_candidates →
           limit < n → after ≡ before →
           Ends words inputs is_calm before after (Some (Run (TooMany n limit))) (Some found.blocks)
-      crowded before after n limit total most many same =
-          record {
-            answered = record {
-              known = (8, lit< tt, refl);
-              written = none_written words inputs.told 9 before after (λ e. omega (arith, e)) (λ e. omega (arith, e))
-                  same;
-              run = (late 9 is_crowded).0;
-              mask = judges 9 (λ e. omega (arith, e));
-              held = λ calm s says there six. refl;
-              too_many = λ e.
-                  counts 9 is_crowded (λ s t. s.search.max_candidates < t) (omega (arith, total, most, many));
-            };
-            said = (
-              tt,
-              counts 9 is_crowded (λ s t. (t ≡ n) × (limit ≡ s.search.max_candidates) × (limit < n))
-                  (total, most, many),
-            );
-          }
+      crowded before after n limit total most many same = record {
+        answered = late_answered before after 9 is_crowded (λ e. omega (arith, e))
+            (none_written words inputs.told 9 before after (λ e. omega (arith, e)) (λ e. omega (arith, e)) same)
+            (λ e. counts 9 is_crowded (λ s t. s.search.max_candidates < t) (omega (arith, total, most, many)));
+        said = (
+          tt,
+          counts 9 is_crowded (λ s t. (t ≡ n) × (limit ≡ s.search.max_candidates) × (limit < n)) (total, most, many),
+        );
+      }
 
       at_text : (before after : SinkSeen) (stop : Option Stop) → EndsKept s0.search list lines before after stop →
           Ends words inputs is_calm before after (as_alone stop) (Some found.blocks)
@@ -399,16 +357,7 @@ module _ (words : List (List ℕ)) (inputs : InputsSeen) (is_calm : Type 0) wher
       at_text before after (Some SinkFault) (few, wrote) = broken_off before after few wrote
       at_text before after (Some (TooMany n limit)) (total, most, many, same) =
           crowded before after n limit total most many same
-      at_text before after (Some Words) e = absurd e
-      at_text before after (Some (Value opt)) e = absurd e
-      at_text before after (Some (Header file cause)) e = absurd e
-      at_text before after (Some (Plan cause)) e = absurd e
-      at_text before after (Some (Recording cause)) e = absurd e
-      at_text before after (Some Memory) e = absurd e
-      at_text before after (Some ReadFault) e = absurd e
-      at_text before after (Some (Gap file expected found)) e = absurd e
-      at_text before after (Some (TooLong limit)) e = absurd e
-      at_text before after (Some FileFault) e = absurd e
+      at_text before after stop e = absurd e
 
     pub after_session : AloneAtFeedStop is_calm → AloneAfterWhole is_calm → SettingsInRange s0.search →
         (before after : SinkSeen) (stop : Option Stop) →
@@ -435,15 +384,8 @@ abbrev ring_statuses : List ℕ
 ring_statuses = 0 ∷ 3 ∷ 6 ∷ 7 ∷ 8 ∷ 9 ∷ 10 ∷ 12 ∷ []
 
 with_ring : Contains ring_statuses 5 → ⊥
-with_ring (zero, below, is) = omega (arith, is)
-with_ring (suc zero, below, is) = omega (arith, is)
-with_ring (suc (suc zero), below, is) = omega (arith, is)
-with_ring (suc (suc (suc zero)), below, is) = omega (arith, is)
-with_ring (suc (suc (suc (suc zero))), below, is) = omega (arith, is)
-with_ring (suc (suc (suc (suc (suc zero)))), below, is) = omega (arith, is)
-with_ring (suc (suc (suc (suc (suc (suc zero))))), below, is) = omega (arith, is)
-with_ring (suc (suc (suc (suc (suc (suc (suc zero)))))), below, is) = omega (arith, is)
-with_ring (suc (suc (suc (suc (suc (suc (suc (suc k))))))), below, is) = omega (arith, below)
+with_ring there =
+    let other = from_each (λ k. (k == 5) ≡ false) ring_statuses 5 there refl refl refl refl refl refl refl refl in cc
 
 -- it comes before there is a data ring
 pub memory_is_early : (words : List (List ℕ)) (inputs : InputsSeen) (is_calm : Type 0) (before after : SinkSeen)

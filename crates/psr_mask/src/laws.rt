@@ -7,7 +7,10 @@ ghost use Rattle.psr_mask.specs.Sample.{SampleIsFound};
 use psr_base::Inputs;
 // Laws: they do nothing when they run, and the proofs use what they ensure.
 use channel_mask::masks_are_not_refused;
-use run_outcome::{accepted_goes_on, accepted_is_not_refused};
+use run_outcome::{
+    accepted_goes_on, accepted_is_not_refused, firsts_are_answered, stops_are_answered,
+    texts_are_answered,
+};
 
 /// If arguments, first header, mask, plan and data are accepted, they are searched, or there is no memory, provided
 /// that neither the inputs nor the output count a fault.
@@ -27,6 +30,10 @@ pub fn causes_are_answered<I: Inputs>()
 {
     accepted_is_not_refused();
     masks_are_not_refused();
+    texts_are_answered::<I>();
+    firsts_are_answered::<I>();
+    stops_are_answered::<I>();
+    accepted_goes_on::<I>();
 }
 
 /// If the files that are read are told, 10 never comes over an output that told enough room for the text.

@@ -1,7 +1,7 @@
 -- How the search of a part ends: at its words or its checkpoint, before all data were sealed, or with its text.
-use Rattle.std.proofs.Common.{◌≡◌, ◌≢◌, ℕ, zero, suc, ◌≤◌, ◌<◌, List, [], ◌∷◌, ◌++◌, refl, sym, ap, ◌∙◌, subst, Some, None, Contains, lit<, arith}
+use Rattle.std.proofs.Common.{◌≡◌, ◌≢◌, ℕ, ◌≤◌, ◌<◌, Bool, true, false, List, [], ◌∷◌, ◌++◌, refl, sym, ap, ◌∙◌, subst, Some, None, Contains, lit<, arith}
 use Rattle.std.proofs.lemmas.List.Elements.{Contains-append_left, Contains-append_right}
-use Rattle.std.specs.Prelude.{Option, IfSome, Err}
+use Rattle.std.specs.Prelude.{Option, IfSome, Err, nat_le, ◌==◌, ◌&&◌, ◌||◌}
 use Rattle.std.specs.Option.{ForSome}
 use Rattle.dada_model.specs.Observation.{Observation}
 use Rattle.psr_base.specs.Told.{Told, InputsSeen}
@@ -22,7 +22,7 @@ use Rattle.warm_restart.specs.declared.checkpoint.CheckpointFault.TheVariants as
 use Rattle.warm_restart.specs.Checkpoint.{IsJudged}
 use Rattle.warm_restart.specs.Warm.{text_of_part}
 use Rattle.run_outcome.specs.declared.stop.Stop.{Stop}
-use Rattle.run_outcome.specs.declared.stop.Stop.TheVariants.{Words, Value, Header, Plan, Recording, Memory, ReadFault, Gap, TooLong, TooMany, SinkFault, FileFault}
+use Rattle.run_outcome.specs.declared.stop.Stop.TheVariants.{Memory, ReadFault, TooMany, SinkFault}
 use Rattle.run_outcome.specs.Texts.{status_of}
 use Rattle.run_outcome.specs.Conversions.{stop_of_words, stop_of_feed}
 use Rattle.run_outcome.specs.Lone.{SayAlone, ExplainsAlone}
@@ -38,41 +38,28 @@ use Rattle.psr_part.specs.Texts.{stop_of_checkpoint, end_status, statuses}
 use Rattle.psr_part.specs.Part.{until_in, check_names, check_text_of, GoesOnFrom, spectra_in, part_search, searching, ForPart}
 use Rattle.psr_part.specs.Outcome.{WritesPart, IsCrowded, HasText, IsRefused, TellsPart, later_statuses, Outcome}
 use Rattle.psr_part.specs.Ends.{spectra_of, count_of, FitsPart, EndsText, EndsFed, IsPartSaid, Ends}
+use Rattle.psr_part.proofs.Statuses.{from_each}
 
 -- ---- statuses
 
-abbrev IsEarly : ℕ → Type 0
-IsEarly n = (n ≢ 2) × (n ≢ 5) × (n ≢ 6) × (n ≢ 13)
+-- those of a search whose data were all sealed
+abbrev late_statuses : List ℕ
+late_statuses = 0 ∷ 9 ∷ 10 ∷ 13 ∷ []
 
--- those that come after the checkpoint is accepted are none of these
-pub later_apart : (n : ℕ) → Contains later_statuses n → IsEarly n
-later_apart n (zero, below, is) = subst IsEarly is
-    ((λ e. omega (arith, e)), (λ e. omega (arith, e)), (λ e. omega (arith, e)), (λ e. omega (arith, e)))
-later_apart n (suc zero, below, is) = subst IsEarly is
-    ((λ e. omega (arith, e)), (λ e. omega (arith, e)), (λ e. omega (arith, e)), (λ e. omega (arith, e)))
-later_apart n (suc (suc zero), below, is) = subst IsEarly is
-    ((λ e. omega (arith, e)), (λ e. omega (arith, e)), (λ e. omega (arith, e)), (λ e. omega (arith, e)))
-later_apart n (suc (suc (suc zero)), below, is) = subst IsEarly is
-    ((λ e. omega (arith, e)), (λ e. omega (arith, e)), (λ e. omega (arith, e)), (λ e. omega (arith, e)))
-later_apart n (suc (suc (suc (suc zero))), below, is) = subst IsEarly is
-    ((λ e. omega (arith, e)), (λ e. omega (arith, e)), (λ e. omega (arith, e)), (λ e. omega (arith, e)))
-later_apart n (suc (suc (suc (suc (suc zero)))), below, is) = subst IsEarly is
-    ((λ e. omega (arith, e)), (λ e. omega (arith, e)), (λ e. omega (arith, e)), (λ e. omega (arith, e)))
-later_apart n (suc (suc (suc (suc (suc (suc zero))))), below, is) = subst IsEarly is
-    ((λ e. omega (arith, e)), (λ e. omega (arith, e)), (λ e. omega (arith, e)), (λ e. omega (arith, e)))
-later_apart n (suc (suc (suc (suc (suc (suc (suc k)))))), below, is) = absurd (omega (arith, below))
+-- whether a status comes after the checkpoint is accepted
+abbrev is_later : ℕ → Bool
+is_later k = k == 0 || k == 3 || k == 4 || (nat_le 7 k && nat_le k 10)
 
--- words that are refused stop a search before its checkpoint
-word_apart : (f : WordFault) → Contains later_statuses (status_of (stop_of_words f)) → ⊥
-word_apart word.Refused h = (later_apart 2 h).0 refl
-word_apart (word.OutOfRange opt) h = (later_apart 2 h).0 refl
-word_apart word.Memory h = (later_apart 5 h).1 refl
+not_later : (n : ℕ) → is_later n ≡ false → ¬ Contains later_statuses n
+not_later n is there =
+    let later = from_each (λ k. is_later k ≡ true) later_statuses n there refl refl refl refl refl refl refl in cc
 
--- nor are they a fault of the inputs
-no_fault : (f : WordFault) → status_of (stop_of_words f) ≢ 6
-no_fault word.Refused six = omega (arith, six)
-no_fault (word.OutOfRange opt) six = omega (arith, six)
-no_fault word.Memory six = omega (arith, six)
+-- words that are refused stop a search before its checkpoint, and are no fault of the inputs
+word_apart : (f : WordFault) →
+    ¬ Contains later_statuses (status_of (stop_of_words f)) × (status_of (stop_of_words f) ≢ 6)
+word_apart word.Refused = (not_later 2 refl, (λ six. omega (arith, six)))
+word_apart (word.OutOfRange opt) = (not_later 2 refl, (λ six. omega (arith, six)))
+word_apart word.Memory = (not_later 5 refl, (λ six. omega (arith, six)))
 
 -- where none is accepted, any one serves
 no_checkpoint : Checkpoint
@@ -80,25 +67,15 @@ no_checkpoint = record { place = 0; pulses = 0 }
 
 -- ---- parts of the outcome
 
-module _ (words : List (List ℕ)) where
-  -- what was told of the files that the words name
-  for_settings : (from : Checkpoint) (told : Told) → WordsSayOnce → (s0 : SettingsSeen) →
-      SayAlone (part_search words from) words s0 → (P : SettingsSeen → FileStream → Type 0) →
-      ((files : List (List ℕ)) → AreTold told s0.names files → P s0 (stream_for s0 files)) →
-      ForPart words from told P
-  for_settings from told once s0 says0 P holds s files says are =
-      subst (λ (t : SettingsSeen). (files : List (List ℕ)) → AreTold told t.names files → P t (stream_for t files))
-      (once (searching words from) words s0 s says0 says) holds files are
-
-  none_written : (from : Checkpoint) (told : Told) (n : ℕ) (before after : SinkSeen) → n ≢ 0 → n ≢ 10 →
-      after ≡ before → WritesPart words from told before after n
-  none_written from told n before after zeroth tenth same = record {
-    text = λ e. absurd (zeroth e);
-    front = λ e. absurd (tenth e);
-    failed = λ e. absurd (tenth e);
-    quiet = λ e. ap (λ (s : SinkSeen). s.faults) same;
-    untouched = λ e f. same;
-  }
+none_written : (words : List (List ℕ)) (from : Checkpoint) (told : Told) (n : ℕ) (before after : SinkSeen) → n ≢ 0 →
+    n ≢ 10 → after ≡ before → WritesPart words from told before after n
+none_written words from told n before after zeroth tenth same = record {
+  text = λ e. absurd (zeroth e);
+  front = λ e. absurd (tenth e);
+  failed = λ e. absurd (tenth e);
+  quiet = λ e. ap (λ (s : SinkSeen). s.faults) same;
+  untouched = λ e f. same;
+}
 
 module _ (words : List (List ℕ)) (inputs : InputsSeen) (is_calm : Type 0) where
   -- calm inputs that hold CHECK
@@ -135,8 +112,8 @@ module _ (words : List (List ℕ)) (inputs : InputsSeen) (is_calm : Type 0) wher
   at_words law fault stop explains is same out =
       at_stop no_checkpoint None stop out out
       (law 13 (part_search words no_checkpoint) words inputs fault stop (explains no_checkpoint) is same)
-      (λ later. absurd (word_apart fault (subst (λ (x : Stop). Contains later_statuses (status_of x)) is later)))
-      (λ calm check six. absurd (no_fault fault (sym (ap status_of is) ∙ six))) refl
+      (λ later. absurd ((word_apart fault).0 (subst (λ (x : Stop). Contains later_statuses (status_of x)) is later)))
+      (λ calm check six. absurd ((word_apart fault).1 (sym (ap status_of is) ∙ six))) refl
 
   -- the checkpoint is refused
   at_refusal : (from : Checkpoint) (blocks : Option Finished) (refusal : CheckpointRefusal) (before after : SinkSeen) →
@@ -145,7 +122,7 @@ module _ (words : List (List ℕ)) (inputs : InputsSeen) (is_calm : Type 0) wher
       Ends words inputs is_calm before after (Some (Refused refusal)) blocks
   at_refusal from blocks refusal before after run refused same = record {
     from = from;
-    accepted = λ later. absurd ((later_apart 13 later).3 refl);
+    accepted = λ later. absurd (not_later 13 refl later);
     held = λ calm check six. absurd (omega (arith, six));
     known = (10, lit< tt, refl);
     written = none_written words from inputs.told 13 before after (λ is. omega (arith, is)) (λ is. omega (arith, is))
@@ -171,7 +148,7 @@ module _ (words : List (List ℕ)) (inputs : InputsSeen) (is_calm : Type 0) wher
       (at_stop no_checkpoint None ReadFault out out
       (before 13 lone words s inputs ReadFault (says no_checkpoint)
       (record { kind = tt; says = tt }) (failed refl))
-      (λ later. absurd ((later_apart 6 later).2 refl)) (λ calm check six. absurd (held refl calm check)) refl)
+      (λ later. absurd (not_later 6 refl later)) (λ calm check six. absurd (held refl calm check)) refl)
   at_checkpoint before own s until same says check.Form failed held quiet judged late stop is out =
       let lone = part_search words no_checkpoint in
       subst (λ (x : PartStop). Ends words inputs is_calm out out (Some x) None) (sym is)
@@ -200,25 +177,26 @@ module _ (words : List (List ℕ)) (inputs : InputsSeen) (is_calm : Type 0) wher
     module _ (law : AloneAfterWhole Calm) (whole : stop_of_feed end ≡ None) (o : Observation) (bytes : List ℕ)
         (known : (files : List (List ℕ)) → AreTold inputs.told s0.names files →
         (o ≡ first_observation (stream_for s0 files) 0) × (bytes ≡ transfer_data (stream_for s0 files) 0)) where
-      late : (n : ℕ) → Contains (0 ∷ 9 ∷ 10 ∷ 13 ∷ []) n →
+      late : (n : ℕ) → Contains late_statuses n →
           RunsAlone 13 (part_search words from) words inputs Calm (Some blocks) n
           × ForPart words from inputs.told (λ s w. CanBegin (searching words from) s w × (walk_stop w ≡ walk.Whole))
       late n at = law 13 (part_search words from) words s0 inputs blocks end n (omega arith) through whole at
 
       -- what holds of the data that were searched holds of those of the files
-      of_data : (n : ℕ) → Contains (0 ∷ 9 ∷ 10 ∷ 13 ∷ []) n → (Q : Observation → List ℕ → Type 0) → Q o bytes →
+      of_data : (n : ℕ) → Contains late_statuses n → (Q : Observation → List ℕ → Type 0) → Q o bytes →
           (P : SettingsSeen → FileStream → Type 0) →
           ((w : FileStream) → CanBegin (searching words from) s0 w → walk_stop w ≡ walk.Whole →
           Q (first_observation w 0) (transfer_data w 0) → P s0 w) → ForPart words from inputs.told P
-      of_data n at Q q P holds =
-          for_settings words from inputs.told once s0 through.says P (λ files are.
+      of_data n at Q q P holds s files says =
+          subst (λ (t : SettingsSeen). (files : List (List ℕ)) → AreTold inputs.told t.names files →
+          P t (stream_for t files)) (once (searching words from) words s0 s through.says says) (λ files are.
           let w = stream_for s0 files in
           let k = known files are in
           let b = (late n at).1 s0 files through.says are in
           holds w b.0 b.1
-          (subst (λ b. Q (first_observation w 0) b) k.1 (subst (λ x. Q x bytes) k.0 q)))
+          (subst (λ b. Q (first_observation w 0) b) k.1 (subst (λ x. Q x bytes) k.0 q))) files
 
-      text_of : (n : ℕ) → Contains (0 ∷ 9 ∷ 10 ∷ 13 ∷ []) n → (P : List ℕ → Type 0) →
+      text_of : (n : ℕ) → Contains late_statuses n → (P : List ℕ → Type 0) →
           FitsPart o s0.search from (until_in words) bytes → P (text_of_part o s0.search from (until_in words) bytes) →
           ForPart words from inputs.told (HasText words from P)
       text_of n at P fits p =
@@ -229,93 +207,85 @@ module _ (words : List (List ℕ)) (inputs : InputsSeen) (is_calm : Type 0) wher
             q.1,
           ))
 
+      -- what each of their statuses says
+      late_ends : (before after : SinkSeen) (stop : Option PartStop) → Contains late_statuses (end_status stop) →
+          WritesPart words from inputs.told before after (end_status stop) →
+          (end_status stop ≡ 9 → ForPart words from inputs.told (IsCrowded words from)) →
+          IsPartSaid words from inputs.told (Some blocks) stop →
+          Ends words inputs is_calm before after stop (Some blocks)
+      late_ends before after stop at written many said = record {
+        from = from;
+        accepted = λ later. goes;
+        held = λ calm check six. goes;
+        known = from_each (Contains statuses) late_statuses (end_status stop) at (0, lit< tt, refl) (8, lit< tt, refl)
+            (9, lit< tt, refl) (10, lit< tt, refl);
+        written = written;
+        run = (late (end_status stop) at).0;
+        too_many = many;
+        said = said;
+      }
+
       -- the whole text, or its front, or no text
       done : (before after : SinkSeen) → FitsPart o s0.search from (until_in words) bytes →
           WroteAll (text_of_part o s0.search from (until_in words) bytes) before after →
           Ends words inputs is_calm before after None (Some blocks)
       done before after fits wrote =
-          let late_one : Contains (0 ∷ 9 ∷ 10 ∷ 13 ∷ []) 0 = (0, lit< tt, refl) in
-          record {
-            from = from;
-            accepted = λ later. goes;
-            held = λ calm check six. goes;
-            known = (0, lit< tt, refl);
-            written = record {
-              text = λ e. text_of 0 late_one (λ text. WroteAll text before after) fits wrote;
-              front = λ e. absurd (omega (arith, e));
-              failed = λ e. absurd (omega (arith, e));
-              quiet = λ e. wrote.faults;
-              untouched = λ e. absurd (e refl);
-            };
-            run = (late 0 late_one).0;
-            too_many = λ e. absurd (omega (arith, e));
-            said = tt;
-          }
+          let at : Contains late_statuses 0 = (0, lit< tt, refl) in
+          late_ends before after None at (record {
+            text = λ e. text_of 0 at (λ text. WroteAll text before after) fits wrote;
+            front = λ e. absurd (omega (arith, e));
+            failed = λ e. absurd (omega (arith, e));
+            quiet = λ e. wrote.faults;
+            untouched = λ e. absurd (e refl);
+          }) (λ e. absurd (omega (arith, e))) tt
 
       broken_off : (before after : SinkSeen) → FitsPart o s0.search from (until_in words) bytes →
           WroteFront (text_of_part o s0.search from (until_in words) bytes) before after →
           Ends words inputs is_calm before after (Some (Run SinkFault)) (Some blocks)
       broken_off before after fits wrote =
-          let late_one : Contains (0 ∷ 9 ∷ 10 ∷ 13 ∷ []) 10 = (2, lit< tt, refl) in
-          record {
-            from = from;
-            accepted = λ later. goes;
-            held = λ calm check six. goes;
-            known = (9, lit< tt, refl);
-            written = record {
-              text = λ e. absurd (omega (arith, e));
-              front = λ e. text_of 10 late_one (λ text. WroteFront text before after) fits wrote;
-              failed = λ e. wrote.rose;
-              quiet = λ e. absurd (e refl);
-              untouched = λ e f. absurd (f refl);
-            };
-            run = (late 10 late_one).0;
-            too_many = λ e. absurd (omega (arith, e));
-            said = (tt, tt);
-          }
+          let at : Contains late_statuses 10 = (2, lit< tt, refl) in
+          late_ends before after (Some (Run SinkFault)) at (record {
+            text = λ e. absurd (omega (arith, e));
+            front = λ e. text_of 10 at (λ text. WroteFront text before after) fits wrote;
+            failed = λ e. wrote.rose;
+            quiet = λ e. absurd (e refl);
+            untouched = λ e f. absurd (f refl);
+          }) (λ e. absurd (omega (arith, e))) (tt, tt)
 
       crowded : (before after : SinkSeen) (count limit : ℕ) → from.place ≤ spectra_of o bytes →
           count_of o s0.search from (until_in words) bytes ≡ count → limit ≡ s0.search.max_candidates →
           limit < count → after ≡ before →
           Ends words inputs is_calm before after (Some (Run (TooMany count limit))) (Some blocks)
       crowded before after count limit within total most many same =
-          let late_one : Contains (0 ∷ 9 ∷ 10 ∷ 13 ∷ []) 9 = (1, lit< tt, refl) in
+          let at : Contains late_statuses 9 = (1, lit< tt, refl) in
           let more : s0.search.max_candidates < count_of o s0.search from (until_in words) bytes =
           omega (arith, total, most, many) in
-          record {
-            from = from;
-            accepted = λ later. goes;
-            held = λ calm check six. goes;
-            known = (8, lit< tt, refl);
-            written = none_written words from inputs.told 9 before after (λ e. omega (arith, e))
-                (λ e. omega (arith, e)) same;
-            run = (late 9 late_one).0;
-            too_many = λ e. of_data 9 late_one (λ x b. (from.place ≤ spectra_of x b)
-                × (s0.search.max_candidates < count_of x s0.search from (until_in words) b)) (within, more)
-                (IsCrowded words from) (λ w begins ends q. record {
-                  finds = record { begins = begins; whole = ends; total = q.1 };
-                  within = q.0;
-                });
-            said = (
-              tt,
-              of_data 9 late_one (λ x b. (count_of x s0.search from (until_in words) b ≡ count)
-                  × (limit ≡ s0.search.max_candidates) × (limit < count)) (total, most, many)
-                  (λ s w. FindsAlone (part_search words from) s w (IsTooMany s count limit))
-                  (λ w begins ends q. record { begins = begins; whole = ends; total = q }),
-            );
-          }
+          late_ends before after (Some (Run (TooMany count limit))) at
+          (none_written words from inputs.told 9 before after (λ e. omega (arith, e)) (λ e. omega (arith, e)) same)
+          (λ e. of_data 9 at (λ x b. (from.place ≤ spectra_of x b)
+          × (s0.search.max_candidates < count_of x s0.search from (until_in words) b)) (within, more)
+          (IsCrowded words from) (λ w begins ends q. record {
+            finds = record { begins = begins; whole = ends; total = q.1 };
+            within = q.0;
+          })) (
+            tt,
+            of_data 9 at (λ x b. (count_of x s0.search from (until_in words) b ≡ count)
+                × (limit ≡ s0.search.max_candidates) × (limit < count)) (total, most, many)
+                (λ s w. FindsAlone (part_search words from) s w (IsTooMany s count limit))
+                (λ w begins ends q. record { begins = begins; whole = ends; total = q }),
+          )
 
       behind : (before after : SinkSeen) (place spectra : ℕ) → place ≡ from.place → spectra ≡ spectra_of o bytes →
           spectra < place → after ≡ before →
           Ends words inputs is_calm before after (Some (Refused (Beyond place spectra))) (Some blocks)
       behind before after place spectra at_place has less same =
-          let late_one : Contains (0 ∷ 9 ∷ 10 ∷ 13 ∷ []) 13 = (3, lit< tt, refl) in
-          at_refusal from (Some blocks) (Beyond place spectra) before after (late 13 late_one).0 (
+          let at : Contains late_statuses 13 = (3, lit< tt, refl) in
+          at_refusal from (Some blocks) (Beyond place spectra) before after (late 13 at).0 (
             refl,
             at_place,
             less,
             goes,
-            of_data 13 late_one (λ x b. spectra ≡ spectra_of x b) has
+            of_data 13 at (λ x b. spectra ≡ spectra_of x b) has
                 (λ s w. FindsAlone (part_search words from) s w (λ total. spectra ≡ spectra_in w))
                 (λ w begins ends q. record { begins = begins; whole = ends; total = q }),
           ) same
@@ -329,26 +299,12 @@ module _ (words : List (List ℕ)) (inputs : InputsSeen) (is_calm : Type 0) wher
           crowded before after count limit within total most many same
       at_text before after (Some (Refused (Beyond place spectra))) (at, has, less, same) =
           behind before after place spectra at has less same
-      at_text before after (Some (Refused Form)) e = absurd e
-      at_text before after (Some (Refused (Place place until))) e = absurd e
-      at_text before after (Some (Run Words)) e = absurd e
-      at_text before after (Some (Run (Value opt))) e = absurd e
-      at_text before after (Some (Run (Header file cause))) e = absurd e
-      at_text before after (Some (Run (Plan cause))) e = absurd e
-      at_text before after (Some (Run (Recording cause))) e = absurd e
-      at_text before after (Some (Run Memory)) e = absurd e
-      at_text before after (Some (Run ReadFault)) e = absurd e
-      at_text before after (Some (Run (Gap file expected found))) e = absurd e
-      at_text before after (Some (Run (TooLong limit))) e = absurd e
-      at_text before after (Some (Run FileFault)) e = absurd e
+      at_text before after stop e = absurd e
 
     -- all data were sealed where the feeder has no stop
     whole_is : (e : FeedEnd) → stop_of_feed e ≡ None → (count : ℕ) × (e ≡ feed.Whole count)
     whole_is (feed.Whole count) is = (count, refl)
-    whole_is feed.ReadFault is = absurd cc
-    whole_is (feed.BadHeader file cause) is = absurd cc
-    whole_is (feed.Gap file expected found) is = absurd cc
-    whole_is (feed.TooLong limit) is = absurd cc
+    whole_is e is = absurd cc
 
     -- what is known once all data were sealed
     pub record IsFound (before after : SinkSeen) (stop : Option PartStop) : Type 0 where

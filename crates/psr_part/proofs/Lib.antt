@@ -1,3 +1,4 @@
+pub mod Statuses
 pub mod Said
 pub mod Moved
 pub mod Endings

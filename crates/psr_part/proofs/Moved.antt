@@ -20,7 +20,7 @@ use Rattle.disk_feeder.specs.declared.answers.HeaderCause.TheVariants.{Text, Fie
 use Rattle.warm_restart.specs.declared.checkpoint.Checkpoint.{Checkpoint}
 use Rattle.warm_restart.specs.Named.{new_word}
 use Rattle.run_outcome.specs.declared.stop.Stop.{Stop}
-use Rattle.run_outcome.specs.declared.stop.Stop.TheVariants.{Words, Value, Header, Plan, Recording, Memory, ReadFault, Gap, TooLong, TooMany, SinkFault, FileFault}
+use Rattle.run_outcome.specs.declared.stop.Stop.TheVariants.{Header, Plan, Recording, Memory, ReadFault}
 use Rattle.run_outcome.specs.Lone.{LoneSearch, SayAlone}
 use Rattle.run_outcome.specs.Firsts.{first_name, EachFirst, RefusesFieldsAt, RefusesFirstFields}
 use Rattle.run_outcome.specs.Runs.{Task, Alone, ForFilesAt, ForFirsts, ForFilesTo, JudgesFirsts, BeginsByFirsts, MayBegin, CanBegin, RefusesSearch, RefusesSearchAt, RefusesToRecord, RefusesRecordingAt}
@@ -148,13 +148,7 @@ module _ (lone : LoneSearch) (words : List (List ℕ)) (old new : Told) (same : 
       }) says
   says_before Memory says = tt
   says_before ReadFault says = tt
-  says_before Words says = absurd says
-  says_before (Value opt) says = absurd says
-  says_before (Gap file expected found) says = absurd says
-  says_before (TooLong limit) says = absurd says
-  says_before (TooMany count limit) says = absurd says
-  says_before SinkFault says = absurd says
-  says_before FileFault says = absurd says
+  says_before stop says = absurd says
 
   pub stops_before : (stop : Stop) → StopsBefore task words new stop → StopsBefore task words old stop
   stops_before stop is = record { kind = is.kind; says = says_before stop is.says }

@@ -6,7 +6,10 @@ ghost use Rattle.psr_part.specs.Sample.{SampleIsFound};
 
 use psr_base::Inputs;
 // Laws: they do nothing when they run, and the proofs use what they ensure.
-use run_outcome::{accepted_goes_on, accepted_is_not_refused};
+use run_outcome::{
+    accepted_goes_on, accepted_is_not_refused, firsts_are_answered, stops_are_answered,
+    texts_are_answered,
+};
 use search_model::{candidates_rise, parts_join};
 use warm_restart::{lines_are_read_back, part_texts_join, texts_say_one};
 
@@ -28,6 +31,10 @@ pub fn causes_are_answered<I: Inputs>()
 {
     texts_say_one();
     accepted_is_not_refused();
+    texts_are_answered::<I>();
+    firsts_are_answered::<I>();
+    stops_are_answered::<I>();
+    accepted_goes_on::<I>();
 }
 
 /// If the files that are read are told, 10 never comes over an output that told enough room for the text.
