@@ -135,7 +135,11 @@ fn check<R: Wait + Abort>(
     }
     let mut inputs = FILES.inputs_for(alloc, words, case.limits.input)?;
     let words = words_of(alloc, words, table.words)?;
-    let ended = run_words(rt, alloc, words.as_slice(), &mut inputs, &case.limits)?;
+    let mut ended = run_words(rt, alloc, words.as_slice(), &mut inputs, &case.limits)?;
+    // After a fault of the output a front of a text isn't looked at.
+    if case.status == 10 {
+        ended.text.truncate(0);
+    }
     assert!(rt; case.is_met(alloc, &ended, 0)?, "{line}: {ended}");
     Ok(())
 }
