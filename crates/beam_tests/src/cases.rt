@@ -1,85 +1,13 @@
 // Runs as the lines of a table give them, and how they must end.
-use crate::files::{NO_FILE, fields_of, push_lines};
-use crate::running::{ENOUGH, Ended, Limits, NEVER, all_inputs, run_past, words_of};
-use psr_base::{Inputs, MemInputs};
+use crate::running::{all_inputs, run_past, words_of};
+use psr_base::MemInputs;
+use run_cases::{Case, calls_of, fields_of};
 use search_session::NoGate;
 use std::alloc::Global;
 use std::process::Abort;
 use std::sync::Wait;
 use std::test::Fail;
 use std::thread::Threads;
-
-// A line of a table.
-#[derive(Clone, Copy)]
-struct Case {
-    numbers: &'static str,
-    words: &'static str,
-    limits: Limits,
-    calls: Option<u64>,
-    status: u8,
-    text: &'static str,
-    notes: &'static str,
-}
-
-impl Case {
-    fn of(line: &'static str) -> Result<Case, Fail> {
-        let [numbers, words, limits, status, text, notes] = fields_of(line);
-        let mut case = Case {
-            numbers,
-            words,
-            limits: ENOUGH,
-            calls: None,
-            status: status.parse::<u8>()?,
-            text,
-            notes,
-        };
-        for named in limits.split(',') {
-            if let Some((name, number)) = named.trim().split_once(' ') {
-                case.set(name, number.parse::<u64>()?)?;
-            }
-        }
-        Ok(case)
-    }
-
-    fn set(&mut self, name: &str, n: u64) -> Result<(), Fail> {
-        match name {
-            "beam" => self.limits.beam = n,
-            "input" => self.limits.input = n,
-            "out" => self.limits.out = n,
-            "note" => self.limits.note = n,
-            "out_room" => self.limits.out_room = n,
-            "note_room" => self.limits.note_room = n,
-            "calls" => self.calls = Some(n),
-            _ => return Err("a number of another name".into()),
-        }
-        Ok(())
-    }
-
-    fn is_met(&self, alloc: Global, ended: &Ended) -> Result<bool, Fail> {
-        Ok(
-            self.status == ended.status
-                && has_lines(alloc, ended.text.as_str(), self.text)?
-                && has_lines(alloc, ended.notes.as_str(), self.notes)?,
-        )
-    }
-}
-
-// Whether the text has these lines, each ended by `;`.
-fn has_lines(alloc: Global, text: &str, lines: &str) -> Result<bool, Fail> {
-    let mut wanted = Vec::new(alloc);
-    push_lines(&mut wanted, lines)?;
-    Ok(text.as_bytes() == wanted.as_slice())
-}
-
-// How many calls were made of inputs of which call NEVER fails.
-fn calls_of(inputs: &mut MemInputs) -> u64 {
-    for more in 0..NEVER {
-        if inputs.open(NO_FILE).is_err() {
-            return NEVER - more;
-        }
-    }
-    0
-}
 
 // How many calls were made of all inputs.
 fn all_calls(inputs: &mut [MemInputs; 7]) -> u64 {
@@ -95,9 +23,10 @@ fn check<R: Threads + Wait + Sync + Abort>(
     alloc: Global,
     line: &'static str,
 ) -> Result<(), Fail> {
-    let case = Case::of(line)?;
-    let mut inputs = all_inputs(alloc, case.words, &case.limits)?;
-    let words = words_of(alloc, case.numbers, case.words)?;
+    let [numbers, words, limits, status, text, notes, _] = fields_of(line);
+    let case = Case::of(words, limits, status, text, notes)?;
+    let mut inputs = all_inputs(alloc, words, &case.limits)?;
+    let words = words_of(alloc, numbers, words)?;
     let ended = run_past(
         rt,
         alloc,
@@ -108,11 +37,8 @@ fn check<R: Threads + Wait + Sync + Abort>(
     )?;
     let calls = all_calls(&mut inputs);
     assert!(rt;
-        case.is_met(alloc, &ended)? && case.calls.unwrap_or(calls) == calls,
-        "{line}: {}, {}{}{calls} calls",
-        ended.status,
-        ended.text,
-        ended.notes
+        case.is_met(alloc, &ended, calls)?,
+        "{line}: {ended}, {calls} calls"
     );
     Ok(())
 }

@@ -1,6 +1,6 @@
 // The text of seven beams of two channels by plain sums, and which of their pulses are marked by the definition: for
 // each pulse, all pulses of all beams are looked at.
-use crate::files::header_of;
+use crate::files::FILES;
 use psr_base::MemInputs;
 use std::alloc::Global;
 use std::test::Fail;
@@ -24,7 +24,7 @@ fn sample(beam: u64, t: u64, c: u64) -> u8 {
 
 /// Inputs that hold the observation of a beam, under the name `beam`.
 fn inputs_of(alloc: Global, beam: u64) -> Result<MemInputs, Fail> {
-    let mut bytes = header_of(alloc, "@", 4096)?;
+    let mut bytes = FILES.header_of(alloc, "@")?;
     for t in 0..SPECTRA {
         bytes.push(sample(beam, t, 0))?;
         bytes.push(sample(beam, t, 1))?;

@@ -1,14 +1,15 @@
 // Whole runs.
 use crate::cases::check_all;
-use crate::files::inputs_for;
+use crate::files::FILES;
 use crate::plain::{inputs_of_all, text_of_all};
 use crate::rows::{REFUSED, SEARCHED, STOPPED};
-use crate::running::{ENOUGH, Ended, Limits, NEVER, all_inputs, run_past, words_of};
+use crate::running::{all_inputs, run_past, words_of};
 use crate::sets::run_three;
 use arrayvec::ArrayVec;
 use beam_set::{BeamEnd, MOST_BEAMS};
 use disk_feeder::FeedEnd;
 use meeting_gate::{Meeting, TurnCount};
+use run_cases::{ENOUGH, Ended, Limits, NEVER};
 use search_model::Candidate;
 use search_session::{Gate, NoGate};
 use std::alloc::Global;
@@ -101,9 +102,9 @@ fn ends_of<G: Gate + Sync, R: Threads + Wait + Sync>(
     let names = names.as_slice();
     let mut calls = [NEVER; 3];
     calls[failing % 3] = call;
-    let one = inputs_for(alloc, "pulse", calls[0])?;
-    let two = inputs_for(alloc, "pulse", calls[1])?;
-    let three = inputs_for(alloc, "pulse", calls[2])?;
+    let one = FILES.inputs_for(alloc, "pulse", calls[0])?;
+    let two = FILES.inputs_for(alloc, "pulse", calls[1])?;
+    let three = FILES.inputs_for(alloc, "pulse", calls[2])?;
     run_three(rt, alloc, names, one, two, three, gate)
 }
 
@@ -193,7 +194,7 @@ fn is_answered<R: Threads + Wait + Sync>(
     };
     let ended = run_limited(rt, alloc, SEVEN, &limits)?;
     if input < call_count(beam) {
-        Ok(ended.status == 6 && ended.text.is_empty() && ended.notes.as_str() == "read fault\n")
+        Ok(ended.status == 6 && ended.text.is_empty() && ended.notes.as_slice() == b"read fault\n")
     } else {
         Ok(ended.status == 0 && ended.notes.is_empty())
     }
@@ -215,7 +216,7 @@ fn a_call_of_a_beam_that_fails_is_answered(rt: HostRuntime) -> Result<(), Fail> 
 #[test]
 fn an_output_that_fails_has_the_front_of_the_text(rt: HostRuntime) -> Result<(), Fail> {
     let whole = run_limited(&rt, rt.alloc(), "pulse later", &ENOUGH)?;
-    let whole = whole.text.as_str();
+    let whole = whole.text.as_slice();
     assert!(rt; whole.len() == 80);
     for step in 0..21 {
         let limits = Limits {
@@ -223,13 +224,9 @@ fn an_output_that_fails_has_the_front_of_the_text(rt: HostRuntime) -> Result<(),
             ..ENOUGH
         };
         let ended = run_limited(&rt, rt.alloc(), "pulse later", &limits)?;
-        let is_front = whole.starts_with(ended.text.as_str());
+        let is_front = whole.starts_with(ended.text.as_slice());
         let status = if step < 20 { 10 } else { 0 };
-        assert!(rt;
-            is_front && ended.status == status,
-            "{step}: {}",
-            ended.text
-        );
+        assert!(rt; is_front && ended.status == status, "{step}: {ended}");
     }
     Ok(())
 }
@@ -248,8 +245,8 @@ fn marks_are_those_of_the_definition(rt: HostRuntime) -> Result<(), Fail> {
             let mut inputs = inputs_of_all(alloc)?;
             let ended = run_past(&rt, alloc, words.as_slice(), &mut inputs, &ENOUGH, &NoGate)?;
             let wanted = text_of_all(alloc, within, more)?;
-            let is = ended.text.as_str() == wanted.lines.as_str();
-            assert!(rt; is, "{within} {more}: {}", ended.text);
+            let is = ended.text.as_slice() == wanted.lines.as_bytes();
+            assert!(rt; is, "{within} {more}: {ended}");
             marked = marked.wrapping_add(wanted.marked);
             others = others.wrapping_add(wanted.others);
         }

@@ -1,6 +1,7 @@
 // Runs as the lines of a table say them, and how they must end.
-use crate::files::{bytes_of, fields_of, inputs_for, push_lines};
-use crate::running::{ENOUGH, Ended, Limits, level};
+use crate::files::{bytes_of, inputs_for};
+use crate::running::level;
+use run_cases::{Case, fields_of, has_lines};
 use std::alloc::Global;
 use std::process::Abort;
 use std::sync::Wait;
@@ -67,59 +68,16 @@ drift | out 0 | 10 | | sink fault;
 drift --spectra 8 | note 0 | 0 | drift.out
 ";
 
-// A line of the table.
-#[derive(Clone, Copy)]
-struct Case {
-    words: &'static str,
-    limits: Limits,
-    status: u8,
-    output: &'static str,
-    notes: &'static str,
-}
-
-impl Case {
-    fn of(line: &'static str) -> Result<Case, Fail> {
-        let [words, failing, status, output, notes] = fields_of(line);
-        let mut case = Case {
-            words,
-            limits: ENOUGH,
-            status: status.parse::<u8>()?,
-            output,
-            notes,
-        };
-        if let Some((name, number)) = failing.split_once(' ') {
-            case.set(name, u64::from(number.parse::<u32>()?))?;
-        }
-        Ok(case)
-    }
-
-    fn set(&mut self, name: &str, n: u64) -> Result<(), Fail> {
-        match name {
-            "input" => self.limits.input = n,
-            "out" => self.limits.out = n,
-            "note" => self.limits.note = n,
-            _ => return Err("calls of another name".into()),
-        }
-        Ok(())
-    }
-
-    fn is_met(&self, alloc: Global, ended: &Ended) -> Result<bool, Fail> {
-        let file = bytes_of(alloc, self.output)?;
-        let mut notes = Vec::new(alloc);
-        push_lines(&mut notes, self.notes)?;
-        Ok(
-            self.status == ended.status
-                && ended.out.as_slice() == file.as_slice()
-                && ended.notes.as_slice() == notes.as_slice(),
-        )
-    }
-}
-
 fn check<R: Wait + Abort>(rt: &R, alloc: Global, line: &'static str) -> Result<(), Fail> {
-    let case = Case::of(line)?;
-    let mut inputs = inputs_for(alloc, case.words, case.limits.input)?;
-    let ended = level(rt, alloc, case.words, &mut inputs, &case.limits)?;
-    assert!(rt; case.is_met(alloc, &ended)?, "{line}: {}", ended.status);
+    let [words, limits, status, output, notes, ..] = fields_of(line);
+    let case = Case::of(words, limits, status, "", notes)?;
+    let wanted = bytes_of(alloc, output)?;
+    let mut inputs = inputs_for(alloc, words, case.limits.input)?;
+    let ended = level(rt, alloc, words, &mut inputs, &case.limits)?;
+    let is_met = ended.status == case.status
+        && ended.text.as_slice() == wanted.as_slice()
+        && has_lines(alloc, ended.notes.as_slice(), notes)?;
+    assert!(rt; is_met, "{line}: {}", ended.status);
     Ok(())
 }
 

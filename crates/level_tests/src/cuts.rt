@@ -1,7 +1,8 @@
 // Observations that are cut anywhere, and inputs and outputs of which each call fails.
-use crate::files::{bytes_of, fields_of, header_of, inputs_for, line_of};
-use crate::running::{ENOUGH, Ended, Limits, level};
+use crate::files::{bytes_of, header_of, inputs_for, line_of};
+use crate::running::level;
 use psr_base::MemInputs;
+use run_cases::{ENOUGH, Ended, Limits, fields_of};
 use std::alloc::Global;
 use std::process::Abort;
 use std::sync::Wait;
@@ -47,7 +48,7 @@ fn check_cuts<R: Wait + Abort>(rt: &R, alloc: Global, line: &'static str) -> Res
     for cut in 0..whole.len().saturating_sub(HEADER) {
         let mut inputs = parts_of(alloc, file, whole.as_slice(), cut)?;
         let ended = level(rt, alloc, words.as_str(), &mut inputs, &ENOUGH)?;
-        let is = ended.status == 0 && ended.out.as_slice() == wanted.as_slice();
+        let is = ended.status == 0 && ended.text.as_slice() == wanted.as_slice();
         assert!(rt; is, "{name}, cut at {cut}");
     }
     Ok(())
@@ -75,12 +76,12 @@ fn level_limited<R: Wait>(rt: &R, alloc: Global, limits: &Limits) -> Result<Ende
 
 // Whether a run with too little room for its output ended so: what was written by then is a front of the file.
 fn is_broken(ended: &Ended, wanted: &[u8]) -> bool {
-    ended.status == 10 && wanted.starts_with(ended.out.as_slice())
+    ended.status == 10 && wanted.starts_with(ended.text.as_slice())
 }
 
 // Whether a run whose inputs failed ended so: nothing was written, or the header and whole stretches.
 fn is_unread(ended: &Ended, wanted: &[u8]) -> bool {
-    let out = ended.out.as_slice();
+    let out = ended.text.as_slice();
     ended.status == 6 && wanted.starts_with(out) && out.len() % STRETCH == 0
 }
 
@@ -89,9 +90,9 @@ fn an_output_that_is_full_has_a_front_of_the_file(rt: HostRuntime) -> Result<(),
     let wanted = bytes_of(rt.alloc(), "drift.out")?;
     for room in HEADER..wanted.len() {
         let mut limits = ENOUGH;
-        limits.room = room as u64;
+        limits.out_room = room as u64;
         let ended = level_limited(&rt, rt.alloc(), &limits)?;
-        let is = is_broken(&ended, wanted.as_slice()) && ended.out.len() >= HEADER;
+        let is = is_broken(&ended, wanted.as_slice()) && ended.text.len() >= HEADER;
         assert!(rt; is, "room for {room} bytes: {}", ended.status);
     }
     Ok(())
@@ -105,7 +106,7 @@ fn ends_at_call<R: Wait>(
     limits: &Limits,
 ) -> Result<(bool, bool), Fail> {
     let ended = level_limited(rt, alloc, limits)?;
-    let is_whole = ended.status == 0 && ended.out.as_slice() == wanted;
+    let is_whole = ended.status == 0 && ended.text.as_slice() == wanted;
     let has_failed = if limits.out < ENOUGH.out {
         is_broken(&ended, wanted)
     } else {

@@ -1,5 +1,6 @@
 // The files that runs read, and those that they write.
 use psr_base::MemInputs;
+use run_cases::{fields_of, push_lines};
 use std::alloc::Global;
 use std::test::Fail;
 
@@ -89,25 +90,6 @@ pair.out | NCHAN 4;NBIT 8;        ;FREQ 1400;BW -200;TSAMP 128.000;
 long.out | NCHAN 4;NBIT 8;TSAMP 999999.999;FREQ 1400;BW -200; | | 4*64
 ";
 
-/// The fields of a line of a table, which `|` parts. Those that it doesn't have are empty.
-pub(crate) fn fields_of(line: &'static str) -> [&'static str; 5] {
-    let mut fields = [""; 5];
-    for (i, field) in line.split('|').enumerate() {
-        if i < fields.len() {
-            fields[i] = field.trim();
-        }
-    }
-    fields
-}
-
-/// Appends lines, each ended by `;`.
-pub(crate) fn push_lines(bytes: &mut Vec<u8>, lines: &str) -> Result<(), Fail> {
-    for byte in lines.bytes() {
-        bytes.push(if byte == b';' { b'\n' } else { byte })?;
-    }
-    Ok(())
-}
-
 // Appends so many values of two bytes.
 fn push_pairs(bytes: &mut Vec<u8>, first: u8, second: u8, count: u32) -> Result<(), Fail> {
     for _ in 0..count {
@@ -156,7 +138,7 @@ pub(crate) fn header_of(alloc: Global, line: &'static str, more: &str) -> Result
 
 // The bytes of the file of a line.
 fn bytes_in(alloc: Global, line: &'static str) -> Result<Vec<u8>, Fail> {
-    let [_, _, form, values, _] = fields_of(line);
+    let [_, _, form, values, ..] = fields_of(line);
     let mut bytes = header_of(alloc, line, "")?;
     push_values(&mut bytes, form, values)?;
     Ok(bytes)

@@ -1,6 +1,7 @@
 // Runs as the lines of a table say them, and how they must end.
-use crate::files::{fields_of, inputs_for, push_lines};
-use crate::running::{Ended, NEVER, ROOM, run_words, words_of};
+use crate::files::inputs_for;
+use crate::running::run_words;
+use run_cases::{Case, NEVER, fields_of, words_of};
 use std::alloc::Global;
 use std::process::Abort;
 use std::sync::Wait;
@@ -76,29 +77,14 @@ PULSE 1300 1 0.104 1 30 3;CHECK 1536 2;END 2 0 2048;
  | more than 800 bytes;
 ";
 
-// Whether these are the lines, each ended by `;`.
-fn has_lines(alloc: Global, bytes: &[u8], lines: &str) -> Result<bool, Fail> {
-    let mut wanted = Vec::new(alloc);
-    push_lines(&mut wanted, lines.trim())?;
-    Ok(bytes == wanted.as_slice())
-}
-
-fn is_met(alloc: Global, fields: [&'static str; 5], ended: &Ended) -> Result<bool, Fail> {
-    let [_, status, text, notes, _] = fields;
-    Ok(
-        status.parse::<u8>()? == ended.status
-            && has_lines(alloc, ended.text.as_slice(), text)?
-            && has_lines(alloc, ended.notes.as_slice(), notes)?,
-    )
-}
-
 fn check<R: Wait + Abort>(rt: &R, alloc: Global, line: &'static str) -> Result<(), Fail> {
-    let fields = fields_of(line);
+    let [words, status, text, notes, ..] = fields_of(line);
+    let case = Case::of(words, "", status, text, notes)?;
     let mut inputs = inputs_for(alloc, NEVER)?;
-    let more = if fields[0].is_empty() { "" } else { WORDS };
-    let words = words_of(alloc, fields[0], more)?;
-    let ended = run_words(rt, alloc, words.as_slice(), &mut inputs, ROOM, NEVER)?;
-    assert!(rt; is_met(alloc, fields, &ended)?, "{line}: {}", ended.status);
+    let more = if words.is_empty() { "" } else { WORDS };
+    let words = words_of(alloc, words, more)?;
+    let ended = run_words(rt, alloc, words.as_slice(), &mut inputs, &case.limits)?;
+    assert!(rt; case.is_met(alloc, &ended, 0)?, "{line}: {ended}");
     Ok(())
 }
 

@@ -1,5 +1,6 @@
 // The files that runs read: two channels of 8 bits, and pulses of delay 1.
 use psr_base::MemInputs;
+use run_cases::{fields_of, push_lines};
 use std::alloc::Global;
 use std::test::Fail;
 
@@ -28,25 +29,6 @@ check_f  | =CHECK 281474976710655 0;
 no_line  | =CHECK 512;
 ";
 
-/// The fields of a line of a table, which `|` parts. Those that it doesn't have are empty.
-pub(crate) fn fields_of(line: &'static str) -> [&'static str; 5] {
-    let mut fields = [""; 5];
-    for (i, field) in line.split('|').enumerate() {
-        if i < fields.len() {
-            fields[i] = field.trim();
-        }
-    }
-    fields
-}
-
-/// Appends lines, each ended by `;`.
-pub(crate) fn push_lines(bytes: &mut Vec<u8>, lines: &str) -> Result<(), Fail> {
-    for byte in lines.bytes() {
-        bytes.push(if byte == b';' { b'\n' } else { byte })?;
-    }
-    Ok(())
-}
-
 // Sets the byte at a place, if it is there.
 fn set(bytes: &mut Vec<u8>, place: usize, value: u8) {
     if place < bytes.len() {
@@ -69,8 +51,8 @@ fn push_data(bytes: &mut Vec<u8>, count: usize, ends: &str) -> Result<(), Fail> 
 }
 
 // The bytes of the file of a line.
-fn bytes_in(alloc: Global, fields: [&'static str; 5]) -> Result<Vec<u8>, Fail> {
-    let [_, lines, count, ends, _] = fields;
+fn bytes_in(alloc: Global, fields: [&'static str; 7]) -> Result<Vec<u8>, Fail> {
+    let [_, lines, count, ends, ..] = fields;
     let mut bytes = Vec::new(alloc);
     if let Some(text) = lines.strip_prefix('=') {
         push_lines(&mut bytes, text)?;

@@ -1,10 +1,8 @@
 // The text against those of psr_search and psr_part, over an observation that is made.
-use crate::running::{NEVER, ROOM, run_words, without_checks, words_of};
-use psr_base::{MemFiles, MemInputs, MemSink};
-use psr_make::run_make;
+use crate::running::{run_words, without_checks};
+use psr_base::MemInputs;
 use psr_part::run_part_in_memory;
-use psr_search::run_in_memory;
-use search_session::NoGate;
+use run_cases::{ENOUGH, made_observation, search_text, words_of};
 use std::alloc::Global;
 use std::process::Abort;
 use std::sync::Wait;
@@ -15,43 +13,6 @@ use std::time::Clock;
 const SEARCH: &str =
     "made --mean 16 --sd 2.828 --snr 6 --max-delay 64 --max-candidates 1000000 --widths 32";
 
-// An observation of so many channels and spectra, and of so many bytes less at its end.
-fn made(alloc: Global, make: &str, less: usize) -> Result<MemInputs, Fail> {
-    let words = words_of(alloc, make, "made")?;
-    let mut files = MemFiles::open(alloc, 1, 5_000_000, &[])?;
-    let mut notes = MemSink::open(alloc, 100, &[])?;
-    let mut inputs = MemInputs::open(alloc, &[])?;
-    if run_make(alloc, words.as_slice(), &mut files, &mut notes) == 0 && files.count() == 1 {
-        let mut bytes = Vec::from_slice(alloc, files.body(0))?;
-        bytes.truncate(bytes.len().saturating_sub(less));
-        inputs.put("made", bytes.as_slice())?;
-    }
-    Ok(inputs)
-}
-
-// The text of the whole search.
-fn whole_text<R: Threads + Wait + Clock + Sync>(
-    rt: &R,
-    alloc: Global,
-    inputs: &mut MemInputs,
-) -> Result<Vec<u8>, Fail> {
-    let words = words_of(alloc, SEARCH, "")?;
-    let mut none = MemFiles::open(alloc, 1, 0, &[])?;
-    let mut out = MemSink::open(alloc, ROOM, &[])?;
-    let mut notes = MemSink::open(alloc, 100, &[])?;
-    let _ran = run_in_memory(
-        rt,
-        alloc,
-        words.as_slice(),
-        inputs,
-        &mut none,
-        &mut out,
-        &mut notes,
-        &NoGate,
-    );
-    Ok(Vec::from_slice(alloc, out.body())?)
-}
-
 // The text in parts, from a checkpoint on.
 fn live_text<R: Wait>(
     rt: &R,
@@ -60,14 +21,13 @@ fn live_text<R: Wait>(
     inputs: &mut MemInputs,
 ) -> Result<Vec<u8>, Fail> {
     let words = words_of(alloc, first, SEARCH)?;
-    Ok(run_words(rt, alloc, words.as_slice(), inputs, ROOM, NEVER)?.text)
+    Ok(run_words(rt, alloc, words.as_slice(), inputs, &ENOUGH)?.text)
 }
 
 // The text of the part from a checkpoint on that has all spectra.
 fn part_text<R: Wait>(rt: &R, alloc: Global, inputs: &mut MemInputs) -> Result<Vec<u8>, Fail> {
     let words = words_of(alloc, "281474976710656 check", SEARCH)?;
-    let mut out = MemSink::open(alloc, ROOM, &[])?;
-    let mut notes = MemSink::open(alloc, 100, &[])?;
+    let (mut out, mut notes) = ENOUGH.sinks(alloc)?;
     let _ran = run_part_in_memory(rt, alloc, words.as_slice(), inputs, &mut out, &mut notes);
     Ok(Vec::from_slice(alloc, out.body())?)
 }
@@ -113,7 +73,10 @@ fn check<R: Threads + Wait + Clock + Sync + Abort>(
     every: &str,
     inputs: &mut MemInputs,
 ) -> Result<Vec<u8>, Fail> {
-    let whole = whole_text(rt, alloc, inputs)?;
+    let words = words_of(alloc, SEARCH, "")?;
+    let Some(whole) = search_text(rt, alloc, words.as_slice(), inputs)? else {
+        return Err("no text of a search".into());
+    };
     let first = format!(in alloc; "{every} new")?;
     let text = live_text(rt, alloc, first.as_str(), inputs)?;
     let plain = without_checks(alloc, text.as_slice())?;
@@ -128,7 +91,7 @@ fn check_lines<R: Threads + Wait + Clock + Sync + Abort>(
     make: &str,
     every: &str,
 ) -> Result<(), Fail> {
-    let mut inputs = made(alloc, make, 0)?;
+    let mut inputs = made_observation(alloc, make, 0)?;
     let text = check(rt, alloc, every, &mut inputs)?;
     assert!(rt; text.as_slice().starts_with(b"PULSE "), "no pulse");
     let on = goes_on(rt, alloc, every, text.as_slice(), &mut inputs)?;
@@ -160,7 +123,7 @@ fn parts_of_1024_are_the_search(rt: HostRuntime) -> Result<(), Fail> {
 #[test]
 fn data_may_end_at_any_byte(rt: HostRuntime) -> Result<(), Fail> {
     for less in 0..17 {
-        let mut inputs = made(rt.alloc(), "--number 1 --nchan 16 --spectra 513", less)?;
+        let mut inputs = made_observation(rt.alloc(), "--number 1 --nchan 16 --spectra 513", less)?;
         check(&rt, rt.alloc(), "512", &mut inputs)?;
     }
     Ok(())

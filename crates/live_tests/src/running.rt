@@ -1,53 +1,22 @@
 // Runs over objects in memory, and what they leave.
-use psr_base::{MemInputs, MemSink};
+use psr_base::MemInputs;
 use psr_live::run_live_in_memory;
+use run_cases::{Ended, Limits};
 use std::alloc::Global;
 use std::sync::Wait;
 use std::test::Fail;
 
-/// The room of an output that is large enough.
-pub(crate) const ROOM: u64 = 5_000_000;
-
-/// A number that no call of a small run has.
-pub(crate) const NEVER: u64 = 1_000_000;
-
-/// How a run ended, and what it left.
-#[derive(Drop)]
-pub(crate) struct Ended {
-    pub(crate) status: u8,
-    pub(crate) text: Vec<u8>,
-    pub(crate) notes: Vec<u8>,
-}
-
-/// The program's name, and the words of two lines.
-pub(crate) fn words_of(alloc: Global, first: &str, more: &str) -> Result<Vec<String>, Fail> {
-    let mut words = Vec::new(alloc);
-    words.push(String::from_str(alloc, "psr")?)?;
-    for line in [first, more] {
-        for word in line.split_whitespace() {
-            words.push(String::from_str(alloc, word)?)?;
-        }
-    }
-    Ok(words)
-}
-
-/// Runs a search by these words over these inputs; the call of the output with this number fails.
+/// Runs a search by these words over these inputs.
 pub(crate) fn run_words<R: Wait>(
     rt: &R,
     alloc: Global,
     words: &[String],
     inputs: &mut MemInputs,
-    room: u64,
-    failing: u64,
+    limits: &Limits,
 ) -> Result<Ended, Fail> {
-    let mut out = MemSink::open(alloc, room, &[failing])?;
-    let mut notes = MemSink::open(alloc, 1000, &[])?;
+    let (mut out, mut notes) = limits.sinks(alloc)?;
     let status = run_live_in_memory(rt, alloc, words, inputs, &mut out, &mut notes);
-    Ok(Ended {
-        status,
-        text: Vec::from_slice(alloc, out.body())?,
-        notes: Vec::from_slice(alloc, notes.body())?,
-    })
+    Ended::of(alloc, status, &out, &notes)
 }
 
 /// The lines of a text that are no CHECK lines.

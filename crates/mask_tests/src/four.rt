@@ -1,5 +1,5 @@
 // An observation of four channels in each layout of its samples.
-use crate::files::header_of;
+use crate::files::FILES;
 use crate::plain::is_masked;
 use psr_base::MemInputs;
 use std::alloc::Global;
@@ -77,7 +77,7 @@ fn turned(layout: Layout, c: usize) -> usize {
 
 /// Inputs that hold the observation in a layout, under the name `four`.
 pub(crate) fn inputs_of(alloc: Global, layout: Layout) -> Result<MemInputs, Fail> {
-    let mut bytes = header_of(alloc, lines_of(layout), 4096)?;
+    let mut bytes = FILES.header_of(alloc, lines_of(layout))?;
     for t in 0..SPECTRA {
         for place in 0..CHANNELS {
             let at = t.wrapping_mul(CHANNELS).wrapping_add(turned(layout, place));

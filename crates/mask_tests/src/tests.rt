@@ -1,10 +1,11 @@
 // Whole runs.
 use crate::cases::check_all;
-use crate::files::inputs_for;
+use crate::files::FILES;
 use crate::four::{inputs_of, layout_of, mask_text};
 use crate::plain::text_without;
 use crate::rows::RUNS;
-use crate::running::{ENOUGH, NEVER, push_words, run_over, search_over, words_of};
+use crate::running::{run_over, words_of};
+use run_cases::{ENOUGH, Ended, NEVER, push_words, search_text};
 use std::alloc::Global;
 use std::sync::Wait;
 use std::test::Fail;
@@ -20,7 +21,7 @@ fn runs_end_as_their_words_and_files_say(rt: HostRuntime) -> Result<(), Fail> {
 fn status_of<R: Wait>(rt: &R, alloc: Global, line: &str) -> Result<u8, Fail> {
     let mut words = Vec::new(alloc);
     push_words(alloc, &mut words, line)?;
-    let mut inputs = inputs_for(alloc, line, NEVER)?;
+    let mut inputs = FILES.inputs_for(alloc, line, NEVER)?;
     let ended = run_over(rt, alloc, words.as_slice(), &mut inputs, &ENOUGH)?;
     Ok(ended.status)
 }
@@ -63,7 +64,7 @@ fn is_plain<R: Wait>(rt: &R, alloc: Global, number: u32, mask: u32) -> Result<bo
     let mut inputs = inputs_of(alloc, layout)?;
     let ended = run_over(rt, alloc, words.as_slice(), &mut inputs, &ENOUGH)?;
     let wanted = text_without(alloc, mask)?;
-    Ok(ended.status == 0 && ended.text.as_str() == wanted.lines.as_str())
+    Ok(ended.status == 0 && ended.text.as_slice() == wanted.lines.as_bytes())
 }
 
 #[test]
@@ -79,12 +80,12 @@ fn every_mask_of_four_channels_gives_its_plain_sums(rt: HostRuntime) -> Result<(
 
 // ---- no mask
 
-// The text of the run with the mask `none`, and that of a search of all channels.
-fn both_texts<R: Threads + Wait + Clock + Sync>(
+// How the run with the mask `none` ends, and the text of a search of all channels.
+fn run_both<R: Threads + Wait + Clock + Sync>(
     rt: &R,
     alloc: Global,
     number: u32,
-) -> Result<(String, String), Fail> {
+) -> Result<(Ended, Vec<u8>), Fail> {
     let mut words = words_of(alloc, "none", FOUR, cut_of(number, 0))?;
     push_words(alloc, &mut words, FOLDED)?;
     let mut inputs = inputs_of(alloc, layout_of(number))?;
@@ -94,17 +95,19 @@ fn both_texts<R: Threads + Wait + Clock + Sync>(
     push_words(alloc, &mut plain, FOUR)?;
     push_words(alloc, &mut plain, cut_of(number, 1))?;
     push_words(alloc, &mut plain, FOLDED)?;
-    let text = search_over(rt, alloc, plain.as_slice(), &mut inputs)?;
-    Ok((ended.text, text))
+    match search_text(rt, alloc, plain.as_slice(), &mut inputs)? {
+        Some(text) => Ok((ended, text)),
+        None => Err("no text of a search".into()),
+    }
 }
 
 #[test]
 fn with_no_channel_masked_all_are_searched(rt: HostRuntime) -> Result<(), Fail> {
     for number in 0..8 {
-        let (masked, plain) = both_texts(&rt, rt.alloc(), number)?;
+        let (masked, plain) = run_both(&rt, rt.alloc(), number)?;
         assert!(rt;
-            masked.len() > 100 && masked.as_str() == plain.as_str(),
-            "layout {number}: {masked}{plain}"
+            plain.len() > 100 && masked.text.as_slice() == plain.as_slice(),
+            "layout {number}: {masked}"
         );
     }
     Ok(())

@@ -1,6 +1,7 @@
 // Runs as the lines of a table give them, and how they must end.
-use crate::files::{fields_of, inputs_for, push_lines};
-use crate::running::{ENOUGH, Ended, Limits, run_words, words_of};
+use crate::files::FILES;
+use crate::running::run_words;
+use run_cases::{Case, fields_of, words_of};
 use std::alloc::Global;
 use std::process::Abort;
 use std::sync::Wait;
@@ -121,83 +122,25 @@ const WIDE: Table = Table {
 ",
 };
 
-// A line of a table.
-#[derive(Clone, Copy)]
-struct Case {
-    words: &'static str,
-    limits: Limits,
-    status: u8,
-    text: &'static str,
-    notes: &'static str,
-    blocks: Option<u64>,
-}
-
-impl Case {
-    fn of(line: &'static str) -> Result<Case, Fail> {
-        let [words, limits, status, text, notes, blocks] = fields_of(line);
-        let mut case = Case {
-            words,
-            limits: ENOUGH,
-            status: status.parse::<u8>()?,
-            text,
-            notes,
-            blocks: None,
-        };
-        if !blocks.is_empty() {
-            case.blocks = Some(u64::from(blocks.parse::<u32>()?));
-        }
-        for named in limits.split(',') {
-            if let Some((name, number)) = named.trim().split_once(' ') {
-                case.set(name, u64::from(number.parse::<u32>()?))?;
-            }
-        }
-        Ok(case)
-    }
-
-    fn set(&mut self, name: &str, n: u64) -> Result<(), Fail> {
-        match name {
-            "input" => self.limits.input = n,
-            "out" => self.limits.out = n,
-            "out_room" => self.limits.out_room = n,
-            "note" => self.limits.note = n,
-            _ => return Err("a number of another name".into()),
-        }
-        Ok(())
-    }
-
-    fn is_met(&self, alloc: Global, ended: &Ended) -> Result<bool, Fail> {
-        Ok(
-            self.status == ended.status
-                && self.blocks.unwrap_or(ended.blocks) == ended.blocks
-                && has_lines(alloc, ended.text.as_slice(), self.text, self.status)?
-                && has_lines(alloc, ended.notes.as_slice(), self.notes, 0)?,
-        )
-    }
-}
-
-// Whether `bytes` are the lines, each ended by `;`. After a fault of the output a front of a text isn't looked at.
-fn has_lines(alloc: Global, bytes: &[u8], lines: &str, status: u8) -> Result<bool, Fail> {
-    let mut wanted = Vec::new(alloc);
-    push_lines(&mut wanted, lines)?;
-    Ok(status == 10 || bytes == wanted.as_slice())
-}
-
 fn check<R: Wait + Abort>(
     rt: &R,
     alloc: Global,
     table: &Table,
     line: &'static str,
 ) -> Result<(), Fail> {
-    let case = Case::of(line)?;
-    let mut inputs = inputs_for(alloc, case.words, case.limits.input)?;
-    let words = words_of(alloc, case.words, table.words)?;
-    let ended = run_words(rt, alloc, words.as_slice(), &mut inputs, &case.limits)?;
-    assert!(rt;
-        case.is_met(alloc, &ended)?,
-        "{line}: {}, {} blocks",
-        ended.status,
-        ended.blocks
-    );
+    let [words, limits, status, text, notes, blocks, _] = fields_of(line);
+    let mut case = Case::of(words, limits, status, text, notes)?;
+    if !blocks.is_empty() {
+        case.blocks = Some(u64::from(blocks.parse::<u32>()?));
+    }
+    let mut inputs = FILES.inputs_for(alloc, words, case.limits.input)?;
+    let words = words_of(alloc, words, table.words)?;
+    let mut ended = run_words(rt, alloc, words.as_slice(), &mut inputs, &case.limits)?;
+    // After a fault of the output a front of a text isn't looked at.
+    if case.status == 10 {
+        ended.text.truncate(0);
+    }
+    assert!(rt; case.is_met(alloc, &ended, 0)?, "{line}: {ended}");
     Ok(())
 }
 

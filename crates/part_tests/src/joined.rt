@@ -1,43 +1,14 @@
 // An observation that is searched in two parts gives the text of one search.
-use crate::files::push_lines;
-use crate::running::{ENOUGH, run_words, words_of};
-use psr_base::{MemFiles, MemInputs, MemSink};
-use psr_make::run_make;
-use psr_search::run_in_memory;
-use search_session::NoGate;
+use crate::files::FILES;
+use crate::running::run_words;
+use psr_base::MemInputs;
+use run_cases::{ENOUGH, before_last_line, made_observation, search_text, words_of};
 use std::alloc::Global;
 use std::process::Abort;
 use std::sync::Wait;
 use std::test::Fail;
 use std::thread::Threads;
 use std::time::Clock;
-
-// The text of the whole search, if it ended with its text.
-fn whole_text<R: Threads + Wait + Clock + Sync>(
-    rt: &R,
-    alloc: Global,
-    search: &str,
-    inputs: &mut MemInputs,
-) -> Result<Option<Vec<u8>>, Fail> {
-    let words = words_of(alloc, search, "")?;
-    let mut made = MemFiles::open(alloc, 1, 0, &[])?;
-    let mut out = MemSink::open(alloc, 5_000_000, &[])?;
-    let mut notes = MemSink::open(alloc, 100, &[])?;
-    let ran = run_in_memory(
-        rt,
-        alloc,
-        words.as_slice(),
-        inputs,
-        &mut made,
-        &mut out,
-        &mut notes,
-        &NoGate,
-    );
-    if ran.status != 0 {
-        return Ok(None);
-    }
-    Ok(Some(Vec::from_slice(alloc, out.body())?))
-}
 
 // The text of the part until this spectrum, from a checkpoint on, if its search ended with its text.
 fn part_text<R: Wait>(
@@ -55,17 +26,6 @@ fn part_text<R: Wait>(
         return Ok(None);
     }
     Ok(Some(ended.text))
-}
-
-// How many bytes come before the last line of a text.
-fn before_last_line(text: &[u8]) -> usize {
-    let mut start = 0;
-    for (i, byte) in text.iter().enumerate() {
-        if *byte == b'\n' && i + 1 < text.len() {
-            start = i + 1;
-        }
-    }
-    start
 }
 
 // The lines of the part up to a cut, and the text of the part from its last line on.
@@ -101,7 +61,8 @@ fn are_joined<R: Threads + Wait + Clock + Sync>(
     search: &str,
     inputs: &mut MemInputs,
 ) -> Result<bool, Fail> {
-    let Some(whole) = whole_text(rt, alloc, search, inputs)? else {
+    let words = words_of(alloc, search, "")?;
+    let Some(whole) = search_text(rt, alloc, words.as_slice(), inputs)? else {
         return Ok(false);
     };
     for cut in cuts {
@@ -117,7 +78,7 @@ fn are_joined<R: Threads + Wait + Clock + Sync>(
 
 // ---- 64 channels and 2000 spectra, cut within chunks and between them
 
-const MAKE: &str = "--number 1 --nchan 64 --spectra 2000 made";
+const MAKE: &str = "--number 1 --nchan 64 --spectra 2000";
 
 // The narrowest boxes, and the widest.
 const SEARCHES: [&str; 2] = [
@@ -125,24 +86,13 @@ const SEARCHES: [&str; 2] = [
     "made --mean 16 --sd 2.828 --max-delay 64 --max-candidates 1000000 --widths 32",
 ];
 
-fn made_observation(alloc: Global) -> Result<MemInputs, Fail> {
-    let words = words_of(alloc, MAKE, "")?;
-    let mut files = MemFiles::open(alloc, 1, 5_000_000, &[])?;
-    let mut notes = MemSink::open(alloc, 100, &[])?;
-    let mut inputs = MemInputs::open(alloc, &[])?;
-    if run_make(alloc, words.as_slice(), &mut files, &mut notes) == 0 && files.count() == 1 {
-        inputs.put("made", files.body(0))?;
-    }
-    Ok(inputs)
-}
-
 fn check_cut<R: Threads + Wait + Clock + Sync + Abort>(
     rt: &R,
     alloc: Global,
     cut: &str,
     until: &str,
 ) -> Result<(), Fail> {
-    let mut inputs = made_observation(alloc)?;
+    let mut inputs = made_observation(alloc, MAKE, 0)?;
     for search in SEARCHES {
         let is = are_joined(rt, alloc, &[cut], until, search, &mut inputs)?;
         assert!(rt; is, "{cut}, {search}");
@@ -202,10 +152,7 @@ fn data_bytes(lines: &str) -> u32 {
 
 // An observation with these header lines, whose bytes are neither even nor in order.
 fn observation_of(alloc: Global, lines: &str) -> Result<MemInputs, Fail> {
-    let mut bytes = Vec::new(alloc);
-    push_lines(&mut bytes, "HDR_SIZE 4096;")?;
-    push_lines(&mut bytes, lines)?;
-    bytes.resize(4096, 0)?;
+    let mut bytes = FILES.header_of(alloc, lines)?;
     let mut value = 7_u8;
     for _byte in 0..data_bytes(lines) {
         value = value.wrapping_mul(29).wrapping_add(113);

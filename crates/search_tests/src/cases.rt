@@ -1,8 +1,8 @@
 // Runs as the lines of a table give them, and how they must end.
-use crate::files::{NO_FILE, fields_of, inputs_for, push_data, push_lines};
-use crate::running::{ENOUGH, Ended, Limits, NEVER, Program, run_past, words_of};
-use dada_recorder::RecordEnd;
-use psr_base::{Inputs, MemFiles, MemInputs};
+use crate::files::FILES;
+use crate::running::{Program, run_past};
+use psr_base::MemFiles;
+use run_cases::{Case, calls_of, fields_of, push_data, words_of};
 use search_session::NoGate;
 use std::alloc::Global;
 use std::process::Abort;
@@ -20,103 +20,6 @@ pub(crate) struct Table {
     pub(crate) program: Program,
     pub(crate) words: &'static str,
     pub(crate) runs: &'static str,
-}
-
-// A line of a table.
-#[derive(Clone, Copy)]
-struct Case {
-    words: &'static str,
-    limits: Limits,
-    status: u8,
-    text: &'static str,
-    notes: &'static str,
-    files: &'static str,
-    calls: Option<u64>,
-    blocks: Option<u64>,
-    recorded: Option<Option<RecordEnd>>,
-}
-
-// How a recorder ended, as `whole 2` or `cut 1` with the number of its files, or as `fault` or `none`.
-fn end_of(text: &str) -> Result<Option<RecordEnd>, Fail> {
-    let (word, number) = text.split_once(' ').unwrap_or((text, "0"));
-    let files = number.parse::<u32>()?;
-    match word {
-        "whole" => Ok(Some(RecordEnd::Whole { files })),
-        "cut" => Ok(Some(RecordEnd::Cut { files })),
-        "fault" => Ok(Some(RecordEnd::FileFault)),
-        "none" => Ok(None),
-        _ => Err("an end of another name".into()),
-    }
-}
-
-impl Case {
-    fn of(line: &'static str) -> Result<Case, Fail> {
-        let [words, limits, status, text, notes, files, counts] = fields_of(line);
-        let mut case = Case {
-            words,
-            limits: ENOUGH,
-            status: status.parse::<u8>()?,
-            text,
-            notes,
-            files,
-            calls: None,
-            blocks: None,
-            recorded: None,
-        };
-        case.set_all(limits)?;
-        case.set_all(counts)?;
-        Ok(case)
-    }
-
-    // Sets what is named by each word of `input 3, out_room 10, recorder cut 1`.
-    fn set_all(&mut self, values: &'static str) -> Result<(), Fail> {
-        for named in values.split(',') {
-            if let Some((name, value)) = named.trim().split_once(' ') {
-                if name == "recorder" {
-                    self.recorded = Some(end_of(value)?);
-                } else {
-                    self.set(name, value.parse::<u32>()?)?;
-                }
-            }
-        }
-        Ok(())
-    }
-
-    fn set(&mut self, name: &str, number: u32) -> Result<(), Fail> {
-        let n = u64::from(number);
-        match name {
-            "input" => self.limits.input = n,
-            "file" => self.limits.file = n,
-            "out" => self.limits.out = n,
-            "note" => self.limits.note = n,
-            "files" => self.limits.files = number,
-            "file_room" => self.limits.file_room = n,
-            "out_room" => self.limits.out_room = n,
-            "note_room" => self.limits.note_room = n,
-            "calls" => self.calls = Some(n),
-            "blocks" => self.blocks = Some(n),
-            _ => return Err("a number of another name".into()),
-        }
-        Ok(())
-    }
-
-    fn is_met(&self, alloc: Global, ended: &Ended) -> Result<bool, Fail> {
-        Ok(
-            self.status == ended.status
-                && has_lines(alloc, ended.text.as_str(), self.text)?
-                && has_lines(alloc, ended.notes.as_str(), self.notes)?
-                && has_files(alloc, &ended.made, self.files)?
-                && self.blocks.unwrap_or(ended.blocks) == ended.blocks
-                && self.recorded.unwrap_or(ended.recorded) == ended.recorded,
-        )
-    }
-}
-
-// Whether the text has these lines, each ended by `;`.
-fn has_lines(alloc: Global, text: &str, lines: &str) -> Result<bool, Fail> {
-    let mut wanted = Vec::new(alloc);
-    push_lines(&mut wanted, lines)?;
-    Ok(text.as_bytes() == wanted.as_slice())
 }
 
 // ---- files that were made
@@ -167,26 +70,18 @@ pub(crate) fn has_files(alloc: Global, made: &MemFiles, files: &str) -> Result<b
 
 // ---- runs
 
-// How many calls were made of the inputs, of which call NEVER fails.
-fn calls_of(inputs: &mut MemInputs) -> u64 {
-    for more in 0..NEVER {
-        if inputs.open(NO_FILE).is_err() {
-            return NEVER - more;
-        }
-    }
-    0
-}
-
 fn check<R: Threads + Wait + Clock + Sync + Abort>(
     rt: &R,
     alloc: Global,
     table: &Table,
     line: &'static str,
 ) -> Result<(), Fail> {
-    let case = Case::of(line)?;
-    let mut inputs = inputs_for(alloc, case.words, case.limits.input)?;
-    let words = words_of(alloc, table.words, case.words)?;
-    let ended = run_past(
+    let [words, limits, status, text, notes, files, counts] = fields_of(line);
+    let mut case = Case::of(words, limits, status, text, notes)?;
+    case.set_all(counts)?;
+    let mut inputs = FILES.inputs_for(alloc, words, case.limits.input)?;
+    let words = words_of(alloc, table.words, words)?;
+    let (ended, made) = run_past(
         rt,
         alloc,
         table.program,
@@ -197,14 +92,9 @@ fn check<R: Threads + Wait + Clock + Sync + Abort>(
     )?;
     let calls = calls_of(&mut inputs);
     assert!(rt;
-        case.is_met(alloc, &ended)? && case.calls.unwrap_or(calls) == calls,
-        "{line}: {}, {}{}{} files, {calls} calls, {} blocks, {:?}",
-        ended.status,
-        ended.text,
-        ended.notes,
-        ended.made.count(),
-        ended.blocks,
-        ended.recorded
+        case.is_met(alloc, &ended, calls)? && has_files(alloc, &made, files)?,
+        "{line}: {ended}, {calls} calls, {} files",
+        made.count()
     );
     Ok(())
 }

@@ -1,14 +1,11 @@
 // The files that runs read.
-use psr_base::MemInputs;
-use std::alloc::Global;
-use std::test::Fail;
+use run_cases::FileTable;
 
-// The lines of a header that `@` stands for. A `;` ends a line, here and below.
-const COMMON: &str = "HDR_SIZE 4096;NCHAN 2;NBIT 8;NPOL 1;NDIM 1;TSAMP 64;FREQ 1400;BW -200;";
-
-// A file on each line: its name; the lines of its header; its data, in which 9*0 are nine zeros; how long it is without
-// its data, if not 4096 bytes; and up to how many bytes a comment fills its text.
-const FILES: &str = "
+/// The table of the files.
+pub(crate) const FILES: FileTable = FileTable {
+    mark: "@",
+    front: "HDR_SIZE 4096;NCHAN 2;NBIT 8;NPOL 1;NDIM 1;TSAMP 64;FREQ 1400;BW -200;",
+    files: "
 pulse        | @UTC_START 2024-01-02-03:04:05;OBS_OFFSET 0; | 10 0 0 20 0 0
 later        | @UTC_START 2024-01-02-03:04:05;OBS_OFFSET 0; | 36*0 10 0 0 20
 next         | @UTC_START 2024-01-02-03:05:05;OBS_OFFSET 0; | 0 0
@@ -58,88 +55,5 @@ no_time      | NCHAN 2;NBIT 8;TSAMP 64;FREQ 1400;BW -200; | 10 0 0 20 0 0
 bad_time     | NCHAN 2;NBIT 8;TSAMP 64;FREQ 1400;BW -200;UTC_START 2024/01/02; | 10 0 0 20 0 0
 full         | @UTC_START 2024-01-02-03:04:05;OBS_OFFSET 0; | 10 0 0 20 0 0 | 4096 | 4021
 overfull     | @UTC_START 2024-01-02-03:04:05;OBS_OFFSET 0; | 10 0 0 20 0 0 | 4096 | 4022
-";
-
-/// The fields of a line of a table, divided by `|`. Missing ones are empty.
-pub(crate) fn fields_of(line: &'static str) -> [&'static str; 7] {
-    let mut fields = [""; 7];
-    for (i, field) in line.split('|').enumerate() {
-        if i < fields.len() {
-            fields[i] = field.trim();
-        }
-    }
-    fields
-}
-
-/// Appends lines, each ended by `;`.
-pub(crate) fn push_lines(bytes: &mut Vec<u8>, lines: &str) -> Result<(), Fail> {
-    for byte in lines.bytes() {
-        bytes.push(if byte == b';' { b'\n' } else { byte })?;
-    }
-    Ok(())
-}
-
-/// Appends data, as `10 0 9*0`.
-pub(crate) fn push_data(bytes: &mut Vec<u8>, data: &str) -> Result<(), Fail> {
-    for word in data.split_whitespace() {
-        let (count, value) = word.split_once('*').unwrap_or(("1", word));
-        let value = value.parse::<u8>()?;
-        for _ in 0..count.parse::<u32>()? {
-            bytes.push(value)?;
-        }
-    }
-    Ok(())
-}
-
-// The bytes of the file of a line.
-fn bytes_in(alloc: Global, fields: [&'static str; 7]) -> Result<Vec<u8>, Fail> {
-    let [_, lines, data, size, filled, ..] = fields;
-    let mut bytes = Vec::new(alloc);
-    match lines.strip_prefix('@') {
-        Some(more) => {
-            push_lines(&mut bytes, COMMON)?;
-            push_lines(&mut bytes, more)?;
-        }
-        None => push_lines(&mut bytes, lines)?,
-    }
-    if !filled.is_empty() {
-        for _ in bytes.len() + 1..filled.parse::<usize>()? {
-            bytes.push(b'#')?;
-        }
-        bytes.push(b'\n')?;
-    }
-    let size = if size.is_empty() {
-        4096
-    } else {
-        size.parse::<usize>()?
-    };
-    bytes.resize(size, 0)?;
-    push_data(&mut bytes, data)?;
-    Ok(bytes)
-}
-
-/// A name that no run reads.
-pub(crate) const NO_FILE: &str = "";
-
-/// The bytes of the file of a name, if there is one.
-pub(crate) fn bytes_of(alloc: Global, name: &str) -> Result<Option<Vec<u8>>, Fail> {
-    for line in FILES.lines() {
-        let fields = fields_of(line);
-        if fields[0] == name {
-            return Ok(Some(bytes_in(alloc, fields)?));
-        }
-    }
-    Ok(None)
-}
-
-/// Inputs that hold the files that the arguments name, whose call with this number fails.
-pub(crate) fn inputs_for(alloc: Global, words: &str, failing: u64) -> Result<MemInputs, Fail> {
-    let mut inputs = MemInputs::open(alloc, &[failing])?;
-    inputs.put(NO_FILE, &[])?;
-    for word in words.split_whitespace() {
-        if let Some(bytes) = bytes_of(alloc, word)? {
-            inputs.put(word, bytes.as_slice())?;
-        }
-    }
-    Ok(inputs)
-}
+",
+};

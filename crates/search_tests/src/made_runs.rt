@@ -2,6 +2,7 @@
 use crate::made_bytes::bytes_of;
 use psr_base::{Files, MemFiles, MemSink, Memory, RealFiles};
 use psr_make::{MakeSpec, run_make};
+use run_cases::fields_of;
 use std::alloc::Global;
 use std::fs;
 use std::test::Fail;
@@ -52,17 +53,6 @@ const SMALL: MakeSpec = MakeSpec {
     nbit: 8,
     npol: 1,
 };
-
-// The fields of a line. Missing ones are empty.
-fn fields_of(line: &'static str) -> [&'static str; 4] {
-    let mut fields = [""; 4];
-    for (i, field) in line.split('|').enumerate() {
-        if i < fields.len() {
-            fields[i] = field.trim();
-        }
-    }
-    fields
-}
 
 // ---- a run
 
@@ -133,7 +123,7 @@ fn is_front(alloc: Global, files: &MemFiles) -> bool {
 
 // Whether the run of a line ends, and leaves a file, as the line says.
 fn is_met(alloc: Global, line: &'static str) -> Result<bool, Memory> {
-    let [words, limits, wanted, count] = fields_of(line);
+    let [words, limits, wanted, count, ..] = fields_of(line);
     let (call, room) = limits.split_once(' ').unwrap_or(("9", "5000"));
     let call = call.parse::<u64>().unwrap_or(9);
     let room = room.parse::<u32>().unwrap_or(0);

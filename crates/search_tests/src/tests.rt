@@ -3,18 +3,18 @@ ghost use Rattle.std.specs.Prelude.{IfOk, IsTrue};
 ghost use Rattle.psr_base.specs.InMemory.{IsMaking};
 
 use crate::cases::{check_all, has_files};
-use crate::files::{bytes_of, inputs_for};
+use crate::files::FILES;
 use crate::recordings::RECORDINGS;
 use crate::running::Program::{Record, Search};
-use crate::running::{ENOUGH, Ended, Limits, NEVER, Program, run_past, words_of};
+use crate::running::{Program, run_past};
 use crate::searches::SEARCHES;
 use band_paths::{edge_delays, path_sum};
 use detect_rule::Rule;
 use meeting_gate::{Meeting, TurnCount};
 use psr_base::{CalmFiles, CalmInputs, CalmSink, MemFiles, MemInputs, MemSink};
-use psr_make::run_make;
 use psr_record::run_record;
 use psr_search::{run, run_in_memory};
+use run_cases::{ENOUGH, Ended, Limits, NEVER, made_observation, words_of};
 use search_session::NoGate;
 use std::alloc::Global;
 use std::sync::Wait;
@@ -46,10 +46,10 @@ fn do_meet<R: Threads + Wait + Clock + Sync>(
     words: &str,
     actor: u32,
 ) -> Result<bool, Fail> {
-    let mut inputs = inputs_for(alloc, "pulse", NEVER)?;
+    let mut inputs = FILES.inputs_for(alloc, "pulse", NEVER)?;
     let words = words_of(alloc, words, "pulse")?;
     let meeting = Meeting::of(0, actor);
-    let ended = run_past(
+    let (ended, _made) = run_past(
         rt,
         alloc,
         program,
@@ -86,10 +86,10 @@ fn take_turns<R: Threads + Wait + Clock + Sync>(
     words: &str,
     actors: &[u32],
 ) -> Result<bool, Fail> {
-    let mut inputs = inputs_for(alloc, "pulse", NEVER)?;
+    let mut inputs = FILES.inputs_for(alloc, "pulse", NEVER)?;
     let words = words_of(alloc, words, "pulse")?;
     let count = TurnCount::new();
-    let ended = run_past(
+    let (ended, _made) = run_past(
         rt,
         alloc,
         program,
@@ -115,7 +115,7 @@ fn turns_of_each_actor_are_told(rt: HostRuntime) -> Result<(), Fail> {
 
 // ---- files that were made are read again
 
-// Runs a program over these inputs, with enough room for large observations.
+// Runs a program over these inputs, with enough room for files of large observations.
 fn run_over<R: Threads + Wait + Clock + Sync>(
     rt: &R,
     alloc: Global,
@@ -123,11 +123,10 @@ fn run_over<R: Threads + Wait + Clock + Sync>(
     words: &[String],
     inputs: &mut MemInputs,
     file: u64,
-) -> Result<Ended, Fail> {
+) -> Result<(Ended, MemFiles), Fail> {
     let limits = Limits {
         file,
         file_room: 5_000_000,
-        out_room: 5_000_000,
         ..ENOUGH
     };
     run_past(rt, alloc, program, words, inputs, &limits, &NoGate)
@@ -141,25 +140,25 @@ fn feed_back(alloc: Global, made: &MemFiles, inputs: &mut MemInputs) -> Result<(
     Ok(())
 }
 
-// The text of a search of what a recording makes.
-fn text_of_recorded<R: Threads + Wait + Clock + Sync>(
+// How a search of what a recording makes ends.
+fn search_recorded<R: Threads + Wait + Clock + Sync>(
     rt: &R,
     alloc: Global,
     recording: &str,
     searching: &str,
     inputs: &mut MemInputs,
-) -> Result<String, Fail> {
+) -> Result<Ended, Fail> {
     let words = words_of(alloc, "--max-bytes 1000", recording)?;
-    let recorded = run_over(rt, alloc, Record, words.as_slice(), inputs, NEVER)?;
-    feed_back(alloc, &recorded.made, inputs)?;
+    let (_recorded, made) = run_over(rt, alloc, Record, words.as_slice(), inputs, NEVER)?;
+    feed_back(alloc, &made, inputs)?;
     let words = words_of(alloc, PULSES, searching)?;
-    let ended = run_over(rt, alloc, Search, words.as_slice(), inputs, NEVER)?;
-    Ok(ended.text)
+    let (ended, _none) = run_over(rt, alloc, Search, words.as_slice(), inputs, NEVER)?;
+    Ok(ended)
 }
 
 #[test]
 fn recorded_files_give_the_same_text(rt: HostRuntime) -> Result<(), Fail> {
-    let mut inputs = inputs_for(rt.alloc(), "pulse next", NEVER)?;
+    let mut inputs = FILES.inputs_for(rt.alloc(), "pulse next", NEVER)?;
     // The arguments of a recording, those of a search of its files, and the text. Each records files of the ones
     // before.
     let cases = [
@@ -169,8 +168,11 @@ fn recorded_files_give_the_same_text(rt: HostRuntime) -> Result<(), Fail> {
         ("--file-size 6 pulse + next", "0 + 1", BOTH),
     ];
     for (recording, searching, wanted) in cases {
-        let text = text_of_recorded(&rt, rt.alloc(), recording, searching, &mut inputs)?;
-        assert!(rt; text.as_str() == wanted, "{recording}: {text}");
+        let ended = search_recorded(&rt, rt.alloc(), recording, searching, &mut inputs)?;
+        assert!(rt;
+            ended.text.as_slice() == wanted.as_bytes(),
+            "{recording}: {ended}"
+        );
     }
     Ok(())
 }
@@ -190,8 +192,7 @@ fn record_more<R: Threads + Wait + Clock + Sync>(
     ensures closed { IfOk result (λ whole. IsTrue whole → ¬ IsMaking made.new) }
 {
     let words = words_of(alloc, options, names)?;
-    let mut out = MemSink::open(alloc, ENOUGH.out_room, &[])?;
-    let mut notes = MemSink::open(alloc, ENOUGH.note_room, &[])?;
+    let (mut out, mut notes) = ENOUGH.sinks(alloc)?;
     let words = words.as_slice();
     match program {
         Search => {
@@ -210,7 +211,7 @@ fn record_more<R: Threads + Wait + Clock + Sync>(
 #[test]
 fn files_are_recorded_one_after_another(rt: HostRuntime) -> Result<(), Fail> {
     let alloc = rt.alloc();
-    let mut inputs = inputs_for(alloc, "pulse next", NEVER)?;
+    let mut inputs = FILES.inputs_for(alloc, "pulse next", NEVER)?;
     let mut made = MemFiles::open(alloc, ENOUGH.files, ENOUGH.file_room, &[])?;
     let small = "--file-size 4 --max-bytes 1000";
     if !record_more(&rt, alloc, Record, small, "pulse", &mut inputs, &mut made)? {
@@ -237,23 +238,11 @@ fn files_are_recorded_one_after_another(rt: HostRuntime) -> Result<(), Fail> {
 
 // ---- an observation of 4 MB, as a user makes, searches and records it
 
-const MAKE: &str =
-    "--number 1 --nchan 1024 --spectra 4096 --delay 256 --period 512 --height 1 made";
+const MAKE: &str = "--number 1 --nchan 1024 --spectra 4096 --delay 256 --period 512 --height 1";
 
 const SEARCH: &str = "--mean 16 --sd 2.828 --max-delay 512 --max-candidates 1000000";
 
 const RECORD: &str = "--shards 4 --hands 3 --record --file-size 1500000 made";
-
-fn made_observation(alloc: Global) -> Result<MemInputs, Fail> {
-    let words = words_of(alloc, MAKE, "")?;
-    let mut files = MemFiles::open(alloc, 1, 5_000_000, &[])?;
-    let mut notes = MemSink::open(alloc, 100, &[])?;
-    let mut inputs = MemInputs::open(alloc, &[])?;
-    if run_make(alloc, words.as_slice(), &mut files, &mut notes) == 0 && files.count() == 1 {
-        inputs.put("made", files.body(0))?;
-    }
-    Ok(inputs)
-}
 
 // Whether files of these numbers of bytes were made, and no others.
 fn has_sizes(made: &MemFiles, sizes: &[usize]) -> bool {
@@ -276,36 +265,36 @@ fn searches_so<R: Threads + Wait + Clock + Sync>(
     inputs: &mut MemInputs,
     file: u64,
     status: u8,
-    text: &str,
+    text: &[u8],
 ) -> Result<bool, Fail> {
     let words = words_of(alloc, SEARCH, words)?;
-    let ended = run_over(rt, alloc, Search, words.as_slice(), inputs, file)?;
-    Ok(ended.status == status && ended.text.as_str() == text)
+    let (ended, _made) = run_over(rt, alloc, Search, words.as_slice(), inputs, file)?;
+    Ok(ended.status == status && ended.text.as_slice() == text)
 }
 
-// The text of the observation that is recorded in three files, which are put back into the inputs.
-fn text_of_observation<R: Threads + Wait + Clock + Sync>(
+// How a search of the observation ends that records it in three files, which are put back into the inputs.
+fn search_observation<R: Threads + Wait + Clock + Sync>(
     rt: &R,
     alloc: Global,
     inputs: &mut MemInputs,
-) -> Result<String, Fail> {
+) -> Result<Ended, Fail> {
     let words = words_of(alloc, SEARCH, RECORD)?;
-    let ended = run_over(rt, alloc, Search, words.as_slice(), inputs, NEVER)?;
-    if !has_sizes(&ended.made, &[1_504_096, 1_504_096, 1_198_400]) {
+    let (ended, made) = run_over(rt, alloc, Search, words.as_slice(), inputs, NEVER)?;
+    if !has_sizes(&made, &[1_504_096, 1_504_096, 1_198_400]) {
         return Err("other files".into());
     }
-    feed_back(alloc, &ended.made, inputs)?;
-    Ok(ended.text)
+    feed_back(alloc, &made, inputs)?;
+    Ok(ended)
 }
 
 #[test]
 fn an_observation_is_made_searched_and_recorded(rt: HostRuntime) -> Result<(), Fail> {
-    let mut inputs = made_observation(rt.alloc())?;
-    let text = text_of_observation(&rt, rt.alloc(), &mut inputs)?;
-    let text = text.as_str();
+    let mut inputs = made_observation(rt.alloc(), MAKE, 0)?;
+    let ended = search_observation(&rt, rt.alloc(), &mut inputs)?;
+    let text = ended.text.as_slice();
     assert!(rt;
-        text.starts_with("PULSE ") && text.ends_with(" 0 4096\n"),
-        "{text}"
+        text.starts_with(b"PULSE ") && text.ends_with(b" 0 4096\n"),
+        "{ended}"
     );
     // One shard and one hand; the recorded files; and a call of the files that fails.
     for (words, file, status) in [("made", NEVER, 0), ("0 1 2", NEVER, 0), (RECORD, 2, 11)] {
@@ -320,7 +309,7 @@ fn calm_objects_are_searched_to_the_end(rt: HostRuntime) -> Result<(), Fail> {
     let alloc = rt.alloc();
     let words = words_of(alloc, PULSES, "0")?;
     let mut inputs = CalmInputs::open(alloc)?;
-    if let Some(bytes) = bytes_of(alloc, "pulse")? {
+    if let Some(bytes) = FILES.bytes_of(alloc, "pulse")? {
         inputs.put("0", bytes.as_slice())?;
     }
     let mut out = MemSink::open(alloc, 1000, &[])?;
