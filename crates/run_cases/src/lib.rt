@@ -14,5 +14,7 @@ pub use case::Case;
 pub use ended::Ended;
 pub use files::{FileTable, NO_FILE, calls_of};
 pub use limits::{ENOUGH, Limits, NEVER};
-pub use lines::{before_last_line, fields_of, has_lines, push_data, push_lines, push_words, words_of};
+pub use lines::{
+    before_last_line, fields_of, has_lines, push_data, push_lines, push_words, words_of,
+};
 pub use programs::{made_observation, search_text};
