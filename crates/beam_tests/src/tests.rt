@@ -194,7 +194,11 @@ fn is_answered<R: Threads + Wait + Sync>(
     };
     let ended = run_limited(rt, alloc, SEVEN, &limits)?;
     if input < call_count(beam) {
-        Ok(ended.status == 6 && ended.text.is_empty() && ended.notes.as_slice() == b"read fault\n")
+        Ok(
+            ended.status == 6
+                && ended.text.is_empty()
+                && ended.notes.as_slice() == b"read fault\n".as_slice(),
+        )
     } else {
         Ok(ended.status == 0 && ended.notes.is_empty())
     }
