@@ -221,12 +221,12 @@ def started(line: str) -> subprocess.Popen[bytes]:
 
 
 def stop(processes: Sequence[subprocess.Popen[bytes]]) -> None:
-    """Ends jobs and all their processes."""
+    """Ends jobs and all their processes, also those that outlive the job."""
+    running = [process for process in processes if process.poll() is None]
     for number in (signal.SIGTERM, signal.SIGKILL):
-        for process in processes:
-            if process.poll() is None:
-                with suppress(ProcessLookupError):
-                    os.killpg(process.pid, number)
+        for process in running:
+            with suppress(ProcessLookupError):
+                os.killpg(process.pid, number)
         last = time.monotonic() + PATIENCE
         while time.monotonic() < last and any(process.poll() is None for process in processes):
             time.sleep(NAP)
