@@ -23,8 +23,14 @@ echo '| Bytes | 1 thread, cold | ns a byte | warm | ns a byte | 3 shards in 4 ha
 echo '|---|---|---|---|---|---|---|---|---|'
 for size in "${sizes[@]}"; do
     rm -f made.dada
-    "${at[psr_make]}" --number 2 --nchan 1024 --delay 512 --period 65536 --height 2 --spectra "$((size / 1024))" \
+    # psr_make makes at most a million spectra: the data of a longer observation are those of one repeated
+    copies=$(((size - 1) / (1024 * 1000000) + 1))
+    spectra=$((size / 1024 / copies))
+    "${at[psr_make]}" --number 2 --nchan 1024 --delay 512 --period 65536 --height 2 --spectra "$spectra" \
         made.dada || exit 2
+    [ "$copies" -eq 1 ] || tail -c +4097 made.dada >once.data
+    for ((copy = 1; copy < copies; copy++)); do cat once.data >>made.dada; done
+    rm -f once.data
     wall=()
     for ((round = 0; round < rounds; round++)); do
         for state in cold warm; do
