@@ -1,6 +1,8 @@
-/* Rings in C to compare ring_bench with: ring free|semaphores SIZE READERS BLOCKS. One writer fills 8 buffers from the
-   blocks' numbers, and each reader, in a thread of its own, copies every block and compares every byte, as there.
+/* Rings in C to compare ring_bench with: ring free|turns|semaphores SIZE READERS BLOCKS. One writer fills 8 buffers from
+   the blocks' numbers, and each reader, in a thread of its own, copies every block and compares every byte, as there.
    free: a count for each thread, on cache lines of its own, and blocks that all readers may copy at once.
+   turns: readers take a block one after another, by a word for each buffer, and these words and the counts lie beside
+   each other, as they do there.
    semaphores: two System V semaphores for each reader, filled and cleared, as PSRDADA's ipcbuf has them. */
 #include <pthread.h>
 #include <sched.h>
@@ -13,11 +15,14 @@
 #include <sys/sem.h>
 #include <time.h>
 
-enum { BUFFERS = 8, MOST_READERS = 8, APART = 256 };
+enum { BUFFERS = 8, MOST_READERS = 8, APART = 256, WRITER = 15 };
 
 typedef struct { _Alignas(APART) atomic_ullong count; } Count;
 
 static Count sealed, cleared[MOST_READERS];
+/* of turns: 16 times the number of the block in each buffer plus 1, and who holds it; and the counts of the readers */
+static _Alignas(64) atomic_ullong held[BUFFERS], passed[MOST_READERS];
+static int turns;
 static unsigned char *buffers[BUFFERS];
 static size_t size;
 static unsigned readers;
@@ -31,15 +36,22 @@ static void move(unsigned short semaphore, short by) {
     if (semop(semaphores, &step, 1) != 0) { perror("semop"); exit(1); }
 }
 
+static int takes(uint64_t number, uint64_t before, unsigned holder) {
+    unsigned long long found = 16 * before;
+    return atomic_compare_exchange_strong(&held[number % BUFFERS], &found, 16 * before + holder);
+}
+
 /* Waits until reader i no longer needs the buffer of this block. */
 static void wait_for_room(uint64_t number, unsigned i) {
     if (semaphores >= 0) { move(2 * i + 1, -1); return; }
-    while (atomic_load(&cleared[i].count) + BUFFERS <= number) sched_yield();
+    atomic_ullong *count = turns ? &passed[i] : &cleared[i].count;
+    while (atomic_load(count) + BUFFERS <= number) sched_yield();
 }
 
 static void wait_for_block(uint64_t number, unsigned i) {
     if (semaphores >= 0) { move(2 * i, -1); return; }
-    while (atomic_load(&sealed.count) <= number) sched_yield();
+    if (turns) while (!takes(number, number + 1, i + 1)) sched_yield();
+    else while (atomic_load(&sealed.count) <= number) sched_yield();
 }
 
 static void *write_all(void *unused) {
@@ -48,8 +60,10 @@ static void *write_all(void *unused) {
     for (uint64_t number = 0; number < blocks; number++) {
         memset(space, byte_of(number), size);
         for (unsigned i = 0; i < readers; i++) wait_for_room(number, i);
+        if (turns) takes(number, number < BUFFERS ? 0 : number - BUFFERS + 1, WRITER);
         memcpy(buffers[number % BUFFERS], space, size);
         if (semaphores >= 0) for (unsigned i = 0; i < readers; i++) move(2 * i, 1);
+        else if (turns) atomic_store(&held[number % BUFFERS], 16 * (number + 1));
         else atomic_store(&sealed.count, number + 1);
     }
     return NULL;
@@ -61,7 +75,9 @@ static void *read_all(void *place) {
     for (uint64_t number = 0; number < blocks; number++) {
         wait_for_block(number, i);
         memcpy(into, buffers[number % BUFFERS], size);
+        if (turns) atomic_store(&held[number % BUFFERS], 16 * (number + 1));
         if (semaphores >= 0) move(2 * i + 1, 1);
+        else if (turns) atomic_store(&passed[i], number + 1);
         else atomic_store(&cleared[i].count, number + 1);
         unsigned char byte = byte_of(number), wrong = 0;
         for (size_t k = 0; k < size; k++) wrong |= into[k] ^ byte;
@@ -74,6 +90,7 @@ int main(int count, char **words) {
     if (count != 5) return 2;
     size = strtoul(words[2], NULL, 10), readers = strtoul(words[3], NULL, 10), blocks = strtoull(words[4], NULL, 10);
     if (size == 0 || readers == 0 || readers > MOST_READERS || blocks == 0) return 2;
+    turns = strcmp(words[1], "turns") == 0;
     if (strcmp(words[1], "semaphores") == 0) {
         semaphores = semget(IPC_PRIVATE, 2 * readers, 0600);
         if (semaphores < 0) { perror("semget"); return 1; }

@@ -1,6 +1,7 @@
 #!/usr/bin/env bash
-# Blocks a second through a ring, from one writer to 1, 4 and 8 readers in threads: here, and to a lock-free ring and to
-# semaphores in C, which do the same work. Each runs for at least a second, and the best of three counts, in turns.
+# Blocks a second through a ring, from one writer to 1, 4 and 8 readers in threads: here, and in C, which does the same
+# work by a lock-free ring, by one whose readers take turns as here, and by semaphores. Each runs for at least a second,
+# and the best of three counts, in turns.
 set -eu
 . "$(dirname "$0")/common.bash"
 make_folder
@@ -20,17 +21,19 @@ rate() { # rate COMMAND ..: blocks a second, over as many blocks as take a secon
 uptime
 for size in 64 4096 524288; do
     for readers in 1 4 8; do
-        here=() free=() semaphores=()
+        here=() free=() taken=() semaphores=()
         for _ in 1 2 3; do
             here+=("$(rate "$ring_bench" "$size" "$readers")")
             free+=("$(rate "$folder/ring" free "$size" "$readers")")
+            taken+=("$(rate "$folder/ring" turns "$size" "$readers")")
             semaphores+=("$(rate "$folder/ring" semaphores "$size" "$readers")")
         done
         a=$(printf '%s\n' "${here[@]}" | greatest)
         b=$(printf '%s\n' "${free[@]}" | greatest) c=$(printf '%s\n' "${semaphores[@]}" | greatest)
-        awk -v s="$size" -v r="$readers" -v a="$a" -v b="$b" -v c="$c" 'BEGIN {
-            printf "%6d B, %d readers: %8d blocks a second; lock-free in C %8d, ", s, r, a, b
-            printf "semaphores %8d; here / lock-free %.2f, here / semaphores %.2f\n", c, a / b, a / c
+        t=$(printf '%s\n' "${taken[@]}" | greatest)
+        awk -v s="$size" -v r="$readers" -v a="$a" -v b="$b" -v t="$t" -v c="$c" 'BEGIN {
+            printf "%6d B, %d readers: %8d blocks a second; in C lock-free %8d, turns %8d, ", s, r, a, b, t
+            printf "semaphores %8d; here / these %.2f, %.2f, %.2f\n", c, a / b, a / t, a / c
         }'
     done
 done
