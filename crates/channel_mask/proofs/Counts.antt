@@ -1,216 +1,179 @@
--- Chunks of alike spectra that a carry takes, and the path sums that are read from it.
-use Rattle.std.proofs.Common.{lit≤, length-append, ◌≡◌, ℕ, ◌+◌, ◌-◌, ◌*◌, ◌/◌, ◌<◌, ◌≤◌, ⊎_elim, true, false, not, Bool, List, ◌++◌, length, slice_index, slice_set, refl, sym, ap, subst, ◌∙◌, get_or-set_same, get_or-set_other, arith}
-use Rattle.std.specs.Prelude.{replicate, if◌then◌else◌}
-use Rattle.band_paths.specs.Edges.{channels_of}
-use Rattle.dada_model.specs.Edges.{AreEdges}
-use Rattle.std.proofs.lemmas.Bool.{cases_lt}
-use Rattle.std.proofs.lemmas.List.{get_or-append-add, get_or-replicate, length-replicate}
+-- The kept cells in parts of the band.
+use Rattle.std.proofs.Common.{◌≡◌, ℕ, zero, suc, ◌+◌, ◌-◌, ◌<◌, ◌≤◌, true, false, Bool, List, [], ◌∷◌, ◌++◌, length, length-append, map, sum, sum_by, slice_index, get_or, refl, sym, ap, subst, ◌∙◌, inl, inr, arith}
+use Rattle.std.specs.Prelude.{if◌then◌else◌}
+use Rattle.std.specs.List.{range_with_len}
+use Rattle.std.proofs.Math.Path.{fun_ext}
 use Rattle.std.proofs.Math.ListN.{get_or-append}
-use Rattle.subband_plan.specs.Nodes.{BandPlan}
-use Rattle.fdmt_carry.specs.Carrying.{Carrying, AreNext, AreThere, HasMade, IsFed, IsBegun, IsRowOn, IsOpened, IsStream, StandsForSamples, StandsMidway}
-use Rattle.search_model.specs.Samples.{Filterbank}
-use Rattle.search_model.specs.Sums.{path_sum}
+use Rattle.std.proofs.lemmas.Bool.{cases_lt, le-ltb}
+use Rattle.std.proofs.lemmas.List.{get_or_read, get_or-append_right}
+use Rattle.dada_model.specs.Bounds.{most_delay}
+use Rattle.dada_model.specs.Edges.{AreEdges}
+use Rattle.band_paths.specs.Edges.{channels_of}
 use Rattle.search_model.specs.Masks.{kept_cells}
 use Rattle.search_model.specs.MaskLaws.{PathSumsCountCells}
-use Rattle.channel_mask.specs.Masks.{is_masked}
+use Rattle.search_model.specs.Paths.{middle, split_at}
+use Rattle.search_model.specs.Subbands.{node_path, node_sum}
+use Rattle.search_model.specs.SubbandLaws.{HalvesAdd, OneChannelAdds, OneChannelIsItsSample, WholeBandIsPathSum}
+use Rattle.search_model.specs.Sums.{between}
 use Rattle.search_engine.specs.Scope.{kept_by}
-use Rattle.channel_mask.specs.Counting.{chunk, mark_sample, AreMarks, Repeats, TakesChunks, TookChunks, EndWith}
+use Rattle.subband_plan.specs.declared.nodes.Node.{Node}
+use Rattle.subband_plan.specs.NodeLaws.{AskedRowsAreThere}
+use Rattle.subband_plan.specs.Nodes.{split_of}
+use Rattle.channel_mask.specs.Counting.{AreCounts, IsCount, cells_in, marks_bank}
 
--- ---- chunks
+-- ---- sums over spectra that are all alike
 
-pub rows_there : (c : Carrying) (samples : List ℕ) → TakesChunks c samples → AreThere c samples chunk
-rows_there c samples takes =
-    let n = channels_of c.tables.plan.edges in
-    let e : n * c.tables.chunk ≡ n * 544 = ap (λ k. n * k) takes.chunk_is in
-    omega (arith, takes.rows, e)
+module _ (edges : List ℕ) (mask : List Bool) where
+  abbrev cells : ℕ → ℕ → ℕ → ℕ
+  cells lo hi d = cells_in edges mask lo hi d
 
-pub next_are : (c : Carrying) (f : Filterbank) (samples : List ℕ) → c.tables.chunk ≡ chunk → Repeats f samples →
-    AreNext c f samples chunk
-next_are c f samples chunk_is repeats = λ channel i small within.
-    ap (λ n. slice_index samples (channel * n + i)) chunk_is ∙ repeats channel i (c.fed + i) small within
+  abbrev mark : ℕ → ℕ
+  mark c = if kept_by mask c then 1 else 0
 
-pub took_none : (c : Carrying) (samples : List ℕ) → TakesChunks c samples → TookChunks c c samples 0
-took_none c samples takes = record {
-  tables = refl;
-  fed = omega arith;
-  takes = takes;
-  stands = λ f repeats stands. stands;
-}
+  -- all cells of a path that begins within the data have the mark of their channel
+  marks_sum : (lo hi d u late : ℕ) → d + late ≤ u →
+      node_sum (marks_bank mask) edges lo hi d u late
+      ≡ sum_by (λ c. sum (map (λ k. mark c) (between (node_path edges lo hi d c) (node_path edges lo hi d (c + 1)))))
+      (range_with_len lo (hi - lo))
+  marks_sum lo hi d u late within =
+      let e : ℕ → ℕ = node_path edges lo hi d in
+      ap (λ (g : ℕ → ℕ → ℕ). sum_by (λ c. sum (map (g c) (between (e c) (e (c + 1))))) (range_with_len lo (hi - lo)))
+      (fun_ext (λ c. fun_ext (λ k. ap (λ (b : Bool). if b then 0 else mark c)
+      (le-ltb (u + k) (d + late) (omega arith)))))
 
-pub took_more : (a b c : Carrying) (samples : List ℕ) (k : ℕ) → TookChunks a b samples k → IsFed b c chunk →
-    ((f : Filterbank) → StandsForSamples b f → AreNext b f samples chunk → StandsForSamples c f) →
-    TookChunks a c samples (k + 1)
-took_more a b c samples k took fed stands = record {
-  tables = fed.tables ∙ took.tables;
-  fed = let before = took.fed in let more = fed.fed in omega arith;
-  takes = record {
-    chunk_is = ap (λ t. t.chunk) fed.tables ∙ took.takes.chunk_is;
-    rows = took.takes.rows ∙ ap (λ t. channels_of t.plan.edges * chunk) (sym fed.tables);
-    whole = fed.not_passing;
-  };
-  stands = λ f repeats before.
-      stands f (took.stands f repeats before) (next_are b f samples took.takes.chunk_is repeats);
-}
+  -- so it doesn't matter where it ends
+  ends_anywhere : (lo hi d u late : ℕ) → d + late ≤ u →
+      node_sum (marks_bank mask) edges lo hi d u late ≡ cells lo hi d
+  unfolding cells_in
+  ends_anywhere lo hi d u late within = marks_sum lo hi d u late within ∙ sym (marks_sum lo hi d d 0 (omega arith))
 
--- ---- path sums
+  -- ---- lists of counts
 
--- amid a pass over a chunk, the last sums of the first delays were read
-pub record ReadsSums (before now : Carrying) (samples sums : List ℕ) (d : ℕ) : Type 0 where
-  pub tables : now.tables ≡ before.tables
-  pub fed : now.fed ≡ before.fed
-  pub last : now.last ≡ chunk
-  pub passing : now.is_passing ≡ true
-  pub next : now.next ≡ d
-  pub takes : TakesChunks before samples
-  pub stands : (f : Filterbank) → Repeats f samples → StandsForSamples before f → StandsMidway now f
-  pub sums_are : (f : Filterbank) (k : ℕ) → Repeats f samples → StandsForSamples before f → k < d →
-      slice_index sums k ≡ path_sum f before.tables.plan.edges (before.fed + 543) k
+  pub none_counted : (lo hi : ℕ) → AreCounts edges mask lo hi 0 []
+  none_counted lo hi = record { entries = refl; each = λ d less. absurd (omega arith) }
 
-one_sum_more : (sums : List ℕ) (d sum : ℕ) (value : ℕ → ℕ) → d < length sums →
-    ((j : ℕ) → j < d → slice_index sums j ≡ value j) → sum ≡ value d →
-    (k : ℕ) → k < d + 1 → slice_index (slice_set sums d sum) k ≡ value k
-one_sum_more sums d sum value within before is k less =
-    ⊎_elim
-    (λ (h : k < d). get_or-set_other sums d k sum 0 (λ (e : k ≡ d). omega arith) ∙ before k h)
-    (λ (h : d ≤ k). let e : k ≡ d = omega arith in
-    ap (λ j. slice_index (slice_set sums d sum) j) e ∙ get_or-set_same sums d sum 0 within ∙ is ∙ ap value (sym e))
-    (cases_lt k d)
+  pub count_more : (lo hi n count : ℕ) (counts : List ℕ) → AreCounts edges mask lo hi n counts →
+      IsCount edges mask lo hi n count → AreCounts edges mask lo hi (n + 1) (counts ++ count ∷ [])
+  count_more lo hi n count counts before is =
+      let entries = before.entries in
+      record {
+        entries = let more = length-append counts (count ∷ []) in omega arith;
+        each = λ d less. elim (cases_lt d n) [
+          | inl early ↦ subst (λ x. IsCount edges mask lo hi d x)
+              (sym (get_or-append counts (count ∷ []) 0 d (omega arith))) (before.each d early)
+          | inr late ↦
+              let last : d ≡ n = omega arith in
+              let at : slice_index (counts ++ count ∷ []) d ≡ count =
+              get_or-append_right counts (count ∷ []) n d 0 entries late
+              ∙ ap (λ k. slice_index (count ∷ []) k) (let none : d - n ≡ 0 = omega arith in none) in
+              subst (λ x. IsCount edges mask lo hi d x) (sym at)
+              (subst (λ k. IsCount edges mask lo hi k count) (sym last) is)
+        ];
+      }
 
-pub reads_none : (before now : Carrying) (samples sums : List ℕ) → TakesChunks before samples →
-    before.tables.plan.first ≡ 0 → IsBegun before now chunk →
-    ((f : Filterbank) → StandsForSamples before f → AreNext before f samples chunk → StandsMidway now f) →
-    ReadsSums before now samples sums 0
-reads_none before now samples sums takes first begun stands = record {
-  tables = begun.tables;
-  fed = begun.fed;
-  last = begun.last;
-  passing = begun.passing;
-  next = begun.next ∙ first;
-  takes = takes;
-  stands = λ f repeats there. stands f there (next_are before f samples takes.chunk_is repeats);
-  sums_are = λ f k repeats there below. absurd (omega arith);
-}
+  module _ (band : AreEdges (length mask) edges) where
+    halves_cells : HalvesAdd → (lo hi d : ℕ) → lo + 2 ≤ hi → hi ≤ length mask → split_at edges lo hi d ≤ d →
+        cells lo hi d ≡ cells lo (middle lo hi) (split_at edges lo hi d)
+        + cells (middle lo hi) hi (d - split_at edges lo hi d)
+    halves_cells add lo hi d two within part =
+        let s : ℕ = split_at edges lo hi d in
+        let m : ℕ = middle lo hi in
+        sym (ends_anywhere lo hi d d 0 (omega arith))
+        ∙ add (marks_bank mask) edges (length mask) lo hi d d 0 band two within
+        ∙ ap (λ n. n + node_sum (marks_bank mask) edges m hi (d - s) d 0)
+        (ends_anywhere lo m s d (0 + (d - s)) (omega arith))
+        ∙ ap (λ n. cells lo m s + n) (ends_anywhere m hi (d - s) d 0 (omega arith))
 
-module _ (before now : Carrying) (samples sums : List ℕ) (d : ℕ) (reads : ReadsSums before now samples sums d) where
-  pub still_there : AreThere now samples now.last
-  still_there =
-      let n = channels_of now.tables.plan.edges in
-      let e : n * now.tables.chunk ≡ n * 544 =
-      ap (λ k. n * k) (ap (λ t. t.chunk) reads.tables ∙ reads.takes.chunk_is) in
-      let rows : length samples ≡ n * 544 =
-      reads.takes.rows ∙ ap (λ t. channels_of t.plan.edges * chunk) (sym reads.tables) in
-      omega (arith, reads.last)
+    first_cells : OneChannelIsItsSample → (c : ℕ) → c < length mask → cells c (c + 1) 0 ≡ mark c
+    first_cells sample c within =
+        sym (ends_anywhere c (c + 1) 0 0 0 (omega arith))
+        ∙ sample (marks_bank mask) edges (length mask) c 0 0 band within (omega arith)
 
-  pub more_delays : length sums ≡ before.tables.plan.last + 1 → d < length sums → now.next ≤ now.tables.plan.last
-  more_delays delays below =
-      let last = ap (λ t. t.plan.last) reads.tables in
-      omega (arith, reads.next)
+    more_cells : OneChannelAdds → (c d : ℕ) → c < length mask →
+        cells c (c + 1) (d + 1) ≡ cells c (c + 1) 0 + cells c (c + 1) d
+    more_cells adds c d within =
+        sym (ends_anywhere c (c + 1) (d + 1) (d + 1) 0 (omega arith))
+        ∙ adds (marks_bank mask) edges (length mask) c d (d + 1) 0 band within
+        ∙ ap (λ n. n + node_sum (marks_bank mask) edges c (c + 1) d (d + 1) 0)
+        (ends_anywhere c (c + 1) 0 (d + 1) (0 + (d + 1)) (omega arith))
+        ∙ ap (λ n. cells c (c + 1) 0 + n) (ends_anywhere c (c + 1) d (d + 1) 0 (omega arith))
 
-  still_next : (f : Filterbank) → Repeats f samples → AreNext now f samples now.last
-  still_next f repeats =
-      subst (λ n. AreNext now f samples n) (sym reads.last)
-      (next_are now f samples (ap (λ t. t.chunk) reads.tables ∙ reads.takes.chunk_is) repeats)
+    one_more : (b : Bool) (d : ℕ) → (if b then 1 else 0) + (if b then d + 1 else 0) ≡ (if b then d + 1 + 1 else 0)
+    one_more true d = omega arith
+    one_more false d = refl
 
-  module _ (next : Carrying) (made : List ℕ) (row_on : IsRowOn now next)
-      (stands : (f : Filterbank) → StandsMidway now f → AreNext now f samples now.last → StandsMidway next f)
-      (makes : (f : Filterbank) → StandsMidway now f → AreNext now f samples now.last → HasMade next f)
-      (sums_made : (f : Filterbank) (k : ℕ) → HasMade next f → k < next.last →
-      slice_index made k ≡ path_sum f next.tables.plan.edges (next.fed + k) (next.next - 1)) where
-    stands_next : (f : Filterbank) → Repeats f samples → StandsForSamples before f → StandsMidway next f
-    stands_next f repeats there = stands f (reads.stands f repeats there) (still_next f repeats)
+    channel_cells : OneChannelAdds → OneChannelIsItsSample → (c d : ℕ) → c < length mask →
+        cells c (c + 1) d ≡ (if kept_by mask c then d + 1 else 0)
+    channel_cells adds sample c zero within = first_cells sample c within
+    channel_cells adds sample c (suc d) within =
+        let next : suc d ≡ d + 1 = omega arith in
+        rw next (more_cells adds c d within
+        ∙ ap (λ n. n + cells c (c + 1) d) (first_cells sample c within)
+        ∙ ap (λ n. mark c + n) (channel_cells adds sample c d within) ∙ one_more (kept_by mask c) d)
 
-    last_made : (f : Filterbank) → Repeats f samples → StandsForSamples before f →
-        slice_index made 543 ≡ path_sum f before.tables.plan.edges (before.fed + 543) d
-    last_made f repeats there =
-        let last = row_on.last in
-        let delay : next.next - 1 ≡ d = omega (arith, row_on.next, reads.next) in
-        let made_now = makes f (reads.stands f repeats there) (still_next f repeats) in
-        sums_made f 543 made_now (omega (arith, reads.last))
-        ∙ ap (λ n. path_sum f next.tables.plan.edges (next.fed + 543) n) delay
-        ∙ ap (λ n. path_sum f next.tables.plan.edges (n + 543) d) (row_on.fed ∙ reads.fed)
-        ∙ ap (λ t. path_sum f t.plan.edges (before.fed + 543) d) (row_on.tables ∙ reads.tables)
+    -- ---- counts
 
-    pub reads_more : d < length sums → ReadsSums before next samples (slice_set sums d (slice_index made 543)) (d + 1)
-    reads_more below = record {
-      tables = row_on.tables ∙ reads.tables;
-      fed = row_on.fed ∙ reads.fed;
-      last = row_on.last ∙ reads.last;
-      passing = row_on.passing;
-      next = row_on.next ∙ ap (λ n. n + 1) reads.next;
-      takes = reads.takes;
-      stands = stands_next;
-      sums_are = λ f k repeats there less.
-          one_sum_more sums d (slice_index made 543) (λ j. path_sum f before.tables.plan.edges (before.fed + 543) j)
-          below (λ j h. reads.sums_are f j repeats there h) (last_made f repeats there) k less;
+    pub channel_count : OneChannelAdds → OneChannelIsItsSample → (c d count : ℕ) → c < length mask →
+        count ≡ (if kept_by mask c then d + 1 else 0) → IsCount edges mask c (c + 1) d count
+    channel_count adds sample c d count within is = record {
+      is = is ∙ sym (channel_cells adds sample c d within);
+      few = subst (λ n. n ≤ c + 1 - c + d) (sym is) (few (kept_by mask c));
     }
+      where
+        few : (b : Bool) → (if b then d + 1 else 0) ≤ c + 1 - c + d
+        few true = omega arith
+        few false = omega arith
 
--- ---- samples
+    -- the counts of both halves that make up that of delay d, whose part s lies in the upper half
+    pub record AreHalves (lo hi d s : ℕ) (upper lower : List ℕ) : Type 0 where
+      pub upper_there : s < length upper
+      pub lower_there : d - s < length lower
+      pub sum : (x y : ℕ) → x ≡ get_or upper s x → y ≡ get_or lower (d - s) y → IsCount edges mask lo hi d (x + y)
 
--- those of the first n channels
-pub record MarksSoFar (mask : List Bool) (n : ℕ) (samples : List ℕ) : Type 0 where
-  pub entries : length samples ≡ n * chunk
-  pub each : (c i : ℕ) → c < n → i < chunk → slice_index samples (c * chunk + i) ≡ mark_sample mask c
-
-abbrev pub other_sample : Bool → ℕ
-other_sample b = if b then 0 else 1
-
-abbrev this_sample : Bool → ℕ
-this_sample b = if b then 1 else 0
-
-opposite : (b : Bool) → other_sample b ≡ this_sample (not b)
-opposite true = refl
-opposite false = refl
-
-pub marks_more : (mask : List Bool) (samples : List ℕ) (n sample : ℕ) → MarksSoFar mask n samples →
-    sample ≡ other_sample (is_masked mask n) → MarksSoFar mask (n + 1) (samples ++ replicate chunk sample)
-marks_more mask samples n sample so_far is = record {
-  entries = let before = so_far.entries in
-      let two = length-append samples (replicate chunk sample) in
-      let size = length-replicate chunk sample in
-      omega arith;
-  each = λ c i below within.
-      let before = so_far.entries in
-      ⊎_elim
-      (λ (h : c < n). get_or-append samples (replicate chunk sample) 0 (c * chunk + i) (omega arith)
-      ∙ so_far.each c i h within)
-      (λ (h : n ≤ c). let e : c ≡ n = omega arith in
-      let at : c * chunk + i ≡ length samples + i = omega arith in
-      ap (λ k. slice_index (samples ++ replicate chunk sample) k) at
-      ∙ get_or-append-add samples (replicate chunk sample) i 0 ∙ get_or-replicate chunk i sample 0 within
-      ∙ is ∙ opposite (is_masked mask n) ∙ ap (mark_sample mask) (sym e))
-      (cases_lt c n);
-}
-
--- ---- cells
-
-abbrev marks_bank : List Bool → Filterbank
-marks_bank mask = record { channels = length mask; spectra = 0; value = λ c t. mark_sample mask c }
-
-at_most_one : (b : Bool) → (if b then 1 else 0) ≤ 1
-at_most_one true = lit≤ tt
-at_most_one false = lit≤ tt
-
-module _ (law : PathSumsCountCells) (edges : List ℕ) (mask : List Bool) (are : AreEdges (length mask) edges)
-    (samples : List ℕ) (marks : AreMarks mask samples) where
-  stream : (plan : BandPlan) → plan.edges ≡ edges → IsStream plan 1 (marks_bank mask)
-  stream plan e = record {
-    channels = let count = are.count in
+    pub are_halves : HalvesAdd → AskedRowsAreThere → (lo hi last : ℕ) → lo + 2 ≤ hi → hi ≤ length mask →
+        last ≤ most_delay → (above : ℕ) → above ≡ split_at edges lo hi last → (upper lower : List ℕ) →
+        AreCounts edges mask lo (middle lo hi) (above + 1) upper →
+        AreCounts edges mask (middle lo hi) hi (last - above + 1) lower → (d s : ℕ) → d < last + 1 →
+        s ≡ split_at edges lo hi d → AreHalves lo hi d s upper lower
+    unfolding split_of
+    are_halves add asked lo hi last two within short above above_is upper lower upper_are lower_are d s early s_is =
+        let n : Node = record { lo = lo; hi = hi; first_row = 0; last_row = last; tail = 0 } in
+        let count = band.count in
         let same : length mask ≡ channels_of edges = omega arith in
-        same ∙ ap channels_of (sym e);
-    small = λ c t. at_most_one (kept_by mask c);
-  }
+        let has = asked edges n d (subst (λ k. AreEdges k edges) same band)
+        (record { some = omega arith; within = omega arith; rows = omega arith; few = short }) two
+        (record { least = omega arith; most = omega arith }) in
+        let part : split_at edges lo hi d ≤ d = has.part in
+        let most : split_at edges lo hi d ≤ split_at edges lo hi last = has.upper.most in
+        let left : d - split_at edges lo hi d ≤ last - split_at edges lo hi last = has.lower.most in
+        let upper_entries = upper_are.entries in
+        let lower_entries = lower_are.entries in
+        let m : ℕ = middle lo hi in
+        let first : s < above + 1 = omega arith in
+        let rest : d - s < last - above + 1 = omega arith in
+        let one = upper_are.each s first in
+        let other = lower_are.each (d - s) rest in
+        let upper_few = one.few in
+        let lower_few = other.few in
+        record {
+          upper_there = omega arith;
+          lower_there = omega arith;
+          sum = λ x y x_is y_is.
+              let x_read = get_or_read upper s x (omega arith) x_is 0 in
+              let y_read = get_or_read lower (d - s) y (omega arith) y_is 0 in
+              record {
+                is = ap (λ k. k + y) (x_read ∙ one.is) ∙ ap (λ k. cells lo m s + k) (y_read ∙ other.is)
+                    ∙ ap (λ k. cells lo m k + cells m hi (d - k)) s_is ∙ sym (halves_cells add lo hi d two within part);
+                few = omega arith;
+              };
+        }
 
-  pub cells_counted : (plan : BandPlan) (fresh taken : Carrying) (sums : List ℕ) (max_delay : ℕ) →
-      plan.edges ≡ edges → IsOpened fresh plan chunk 0 1 →
-      ((f : Filterbank) → IsStream plan 1 f → StandsForSamples fresh f) →
-      TookChunks fresh taken samples (max_delay / chunk) → EndWith taken samples sums →
-      length sums ≡ max_delay + 1 → (d : ℕ) → d ≤ max_delay →
-      slice_index sums d ≡ kept_cells (kept_by mask) edges (length mask) d
-  cells_counted plan fresh taken sums max_delay e opened stands took ends long d below =
-      let f = marks_bank mask in
-      let repeats : Repeats f samples = λ c i t small within. marks.each c i small within in
-      let edges_are = ap (λ t. t.plan.edges) took.tables ∙ ap (λ p. p.edges) opened.plan_is ∙ e in
-      let late : d + 0 ≤ taken.fed + 543 = omega (arith, took.fed, opened.nothing_fed) in
-      ends f d repeats (took.stands f repeats (stands f (stream plan e))) (omega arith)
-      ∙ ap (λ es. path_sum f es (taken.fed + 543) d) edges_are
-      ∙ law f edges (kept_by mask) d (taken.fed + 543) 0 are late (λ c t small there. refl)
+    -- ---- delays of the whole band
+
+    pub delay_counted : WholeBandIsPathSum → PathSumsCountCells → (n : ℕ) (counts : List ℕ) →
+        AreCounts edges mask 0 (length mask) n counts → (d : ℕ) → d < n →
+        slice_index counts d ≡ kept_cells (kept_by mask) edges (length mask) d
+    delay_counted whole law n counts counted d below =
+        (counted.each d below).is ∙ sym (ends_anywhere 0 (length mask) d d 0 (omega arith))
+        ∙ whole (marks_bank mask) edges d d 0 band
+        ∙ law (marks_bank mask) edges (kept_by mask) d d 0 band (omega arith) (λ c t small early. refl)

@@ -1,46 +1,29 @@
--- How cells are counted: by path sums over spectra that are all alike, 1 in the channels that are kept and 0 in others.
+-- How cells are counted: over each part of the band that the halving tree comes to.
 -- Source: this project's choice.
-use Rattle.std.specs.Prelude.{◌≡◌, ℕ, ◌+◌, ◌*◌, ◌<◌, false, Bool, List, length, slice_index, if◌then◌else◌}
-use Rattle.band_paths.specs.Edges.{channels_of}
-use Rattle.fdmt_carry.specs.Carrying.{Carrying, StandsForSamples}
+use Rattle.std.specs.Prelude.{◌≡◌, ℕ, ◌+◌, ◌-◌, ◌≤◌, ◌<◌, Bool, List, length, slice_index, if◌then◌else◌}
 use Rattle.search_model.specs.Samples.{Filterbank}
-use Rattle.search_model.specs.Sums.{path_sum}
+use Rattle.search_model.specs.Subbands.{node_sum}
 use Rattle.search_engine.specs.Scope.{kept_by}
 
--- how many spectra are added up at a time
-abbrev pub chunk : ℕ
-chunk = 544
+-- spectra that are all alike, 1 in the channels that are kept and 0 in others
+abbrev pub marks_bank : List Bool → Filterbank
+marks_bank mask = record {
+  channels = length mask;
+  spectra = 0;
+  value = λ c t. if kept_by mask c then 1 else 0;
+}
 
--- the sample of channel c
-abbrev pub mark_sample : List Bool → ℕ → ℕ
-mark_sample mask c = if kept_by mask c then 1 else 0
+-- how many kept cells the path of delay d has in the channels from lo up to hi: its sum over such spectra
+unfoldable pub cells_in : List ℕ → List Bool → ℕ → ℕ → ℕ → ℕ
+cells_in edges mask lo hi d = node_sum (marks_bank mask) edges lo hi d d 0
 
--- the samples of a chunk, those of channel c from c * chunk on
-pub record AreMarks (mask : List Bool) (samples : List ℕ) : Type 0 where
-  pub entries : length samples ≡ length mask * chunk
-  pub each : (c i : ℕ) → c < length mask → i < chunk →
-      slice_index samples (c * chunk + i) ≡ mark_sample mask c
+-- a count of these
+pub record IsCount (edges : List ℕ) (mask : List Bool) (lo hi d count : ℕ) : Type 0 where
+  pub is : count ≡ cells_in edges mask lo hi d
+  pub few : count ≤ hi - lo + d
 
--- each spectrum of a band is one of these
-abbrev pub Repeats : Filterbank → List ℕ → Type 0
-Repeats f samples = (c i t : ℕ) → c < f.channels → i < chunk →
-    slice_index samples (c * chunk + i) ≡ f.value c t
-
--- a carry that is fed such chunks
-pub record TakesChunks (c : Carrying) (samples : List ℕ) : Type 0 where
-  pub chunk_is : c.tables.chunk ≡ chunk
-  pub rows : length samples ≡ channels_of c.tables.plan.edges * chunk
-  pub whole : c.is_passing ≡ false
-
--- `count` chunks of these samples were taken
-pub record TookChunks (before after : Carrying) (samples : List ℕ) (count : ℕ) : Type 0 where
-  pub tables : after.tables ≡ before.tables
-  pub fed : after.fed ≡ before.fed + count * chunk
-  pub takes : TakesChunks after samples
-  pub stands : (f : Filterbank) → Repeats f samples → StandsForSamples before f →
-      StandsForSamples after f
-
--- the path sums of each delay that end at the last spectrum of the next chunk
-abbrev pub EndWith : Carrying → List ℕ → List ℕ → Type 0
-EndWith c samples sums = (f : Filterbank) (d : ℕ) → Repeats f samples → StandsForSamples c f →
-    d < length sums → slice_index sums d ≡ path_sum f c.tables.plan.edges (c.fed + 543) d
+-- the counts of the first n delays
+pub record AreCounts (edges : List ℕ) (mask : List Bool) (lo hi n : ℕ) (counts : List ℕ)
+    : Type 0 where
+  pub entries : length counts ≡ n
+  pub each : (d : ℕ) → d < n → IsCount edges mask lo hi d (slice_index counts d)

@@ -1,92 +1,90 @@
 // Counts how many cells of each delay path lie in the channels that are kept.
-ghost use Rattle.std.specs.Prelude.{◌≡◌, ℕ, ◌+◌, ◌*◌, ◌^◌, ◌≤◌, ◌<◌, length, slice_index, if◌then◌else◌, IfOk};
+ghost use Rattle.std.specs.Prelude.{◌≡◌, ℕ, ◌+◌, ◌≤◌, ◌<◌, List, length, slice_index, if◌then◌else◌, IfOk};
 ghost use Rattle.dada_model.specs.Bounds.{most_delay};
 ghost use Rattle.dada_model.specs.Edges.{AreEdges};
 ghost use Rattle.dada_model.specs.Observation.{edges as edges_of};
 ghost use Rattle.search_model.specs.Masks.{kept_cells};
 ghost use Rattle.search_engine.specs.Scope.{kept_by};
-ghost use Rattle.channel_mask.specs.Counting.{chunk, AreMarks, TakesChunks, TookChunks, EndWith};
+ghost use Rattle.channel_mask.specs.Counting.{AreCounts};
 
 use crate::mask::Mask;
-use fdmt_carry::{Carry, Samples};
+use band_paths::split;
 use obs_plan::Observation;
 use psr_base::Memory;
-// A law: it does nothing when it runs, and the proofs use what it ensures.
-use search_model::path_sums_count_cells;
 use std::alloc::{AllocError, Global};
-use subband_plan::Plan;
+// Laws: they do nothing when they run, and the proofs use what they ensure.
+use search_model::{
+    halves_add, one_channel_adds, one_channel_is_its_sample, path_sums_count_cells,
+    whole_band_is_path_sum,
+};
+use subband_plan::asked_rows_are_there;
 
-// How many spectra are added up at a time. Rows of 544 values of 16 bits are an odd number of cache lines apart, and
-// two calls take the spectra of a delay of 1024.
-const CHUNK: usize = 544;
-
-// The sample of a channel: 0 if it is masked, otherwise 1.
-fn sample(is_masked: bool) -> u8
-    ensures { result ≡ (if is_masked then 0 else 1) }
+// How many kept cells a path of delay `d` has in channel `c`: one for each spectrum, or none if the channel is masked.
+fn cells_of_channel(masked: &[bool], c: usize, d: u32) -> u32
+    requires channel { c < length masked.now }
+    requires delay { d ≤ most_delay }
+    ensures { result ≡ (if kept_by masked.now c then d + 1 else 0) }
 {
-    if is_masked { 0 } else { 1 }
+    if masked[c] { 0 } else { d + 1 }
 }
 
-// The samples of a chunk of spectra, one channel after another: 0 in masked channels, 1 in all others.
-fn samples(alloc: Global, masked: &[bool]) -> Result<Vec<u8>, AllocError>
-    requires { length masked.now ≤ 4096 }
-    ensures { IfOk result (λ samples. AreMarks masked.now samples.items) }
+// The kept cells of each delay up to `last` in channel `c`.
+fn count_channel(
+    alloc: Global,
+    masked: &[bool],
+    c: usize,
+    last: u32,
+) -> Result<Vec<u32>, AllocError>
+    requires channel { c < length masked.now }
+    requires delay { last ≤ most_delay }
+    ensures { IfOk result (λ counts. (edges : List ℕ) → AreEdges (length masked.now) edges
+        → AreCounts edges masked.now c (c + 1) (last + 1) counts.items) }
 {
-    let mut samples = Vec::with_capacity(alloc, masked.len() * CHUNK)?;
-    for is_masked in masked {
-        samples.extend_from_slice(&[sample(*is_masked); CHUNK])?;
+    one_channel_adds();
+    one_channel_is_its_sample();
+    let mut counts = Vec::with_capacity(alloc, last as usize + 1)?;
+    for d in 0..last + 1 {
+        counts.push(cells_of_channel(masked, c, d))?;
     }
-    Ok(samples)
+    Ok(counts)
 }
 
-// Takes `count` chunks of these samples.
-fn take_chunks(carry: &mut Carry, samples: &[u8], count: u32)
-    requires takes { TakesChunks carry.old samples.now }
-    requires few { carry.old.fed + count * chunk ≤ 2 ^ 48 }
-    ensures { TookChunks carry.old carry.new samples.now count }
-{
-    for _taken in 0..count {
-        carry.pass(Samples::Bytes(samples), CHUNK as u32);
-    }
-}
-
-// Writes the last path sum of each delay from 0 on to `sums`, by a pass over a chunk. The pass is not ended.
-fn read_sums(carry: &mut Carry, samples: &[u8], sums: &mut [u32])
-    requires takes { TakesChunks carry.old samples.now }
-    requires few { carry.old.fed + chunk ≤ 2 ^ 48 }
-    requires first { carry.old.tables.plan.first ≡ 0 }
-    requires delays { length sums.old ≡ carry.old.tables.plan.last + 1 }
-    ensures { EndWith carry.old samples.now sums.new }
-{
-    carry.begin(Samples::Bytes(samples), CHUNK as u32);
-    for d in 0..sums.len() {
-        carry.make_row(Samples::Bytes(samples));
-        sums[d] = carry.made()[CHUNK - 1];
-    }
-}
-
-// The number of kept cells of each delay up to `max_delay`. `edges` are the edges of the channels in kHz, the highest
-// first.
-fn counts(alloc: Global, edges: &[u32], masked: &[bool], max_delay: u32) -> Result<Vec<u32>, Memory>
+// The kept cells of each delay up to `last` in the channels from `lo` up to `hi`: those in the upper and the lower half
+// together, each of which has its part of the delay.
+fn count_part(
+    alloc: Global,
+    edges: &[u32],
+    masked: &[bool],
+    lo: usize,
+    hi: usize,
+    last: u32,
+) -> Result<Vec<u32>, AllocError>
     requires edges { AreEdges (length masked.now) edges.now }
-    requires delay { max_delay ≤ most_delay }
-    ensures long { IfOk result (λ counts. length counts.items ≡ max_delay + 1) }
-    ensures cells { IfOk result (λ counts. (d : ℕ) → d ≤ max_delay → slice_index counts.items d
-        ≡ kept_cells (kept_by masked.now) edges.now (length masked.now) d) }
+    requires some { lo < hi }
+    requires within { hi ≤ length masked.now }
+    requires delay { last ≤ most_delay }
+    ensures { IfOk result (λ counts.
+        AreCounts edges.now masked.now lo hi (last + 1) counts.items) }
 {
-    path_sums_count_cells();
-    let samples = samples(alloc, masked)?;
-    let mut counts = vec![in alloc; 0u32; max_delay as usize + 1]?;
-    let plan = Plan::open(alloc, edges, 0, max_delay)?;
-    let mut carry = Carry::open_passing(alloc, plan, CHUNK as u32, 0, 1)?;
-    take_chunks(&mut carry, samples.as_slice(), max_delay / CHUNK as u32);
-    read_sums(&mut carry, samples.as_slice(), counts.as_mut_slice());
+    if hi - lo < 2 {
+        return count_channel(alloc, masked, lo, last);
+    }
+    halves_add();
+    asked_rows_are_there();
+    let middle = lo + (hi - lo) / 2;
+    let above = split(edges, lo, middle, hi, last);
+    let upper = count_part(alloc, edges, masked, lo, middle, above)?;
+    let lower = count_part(alloc, edges, masked, middle, hi, last - above)?;
+    let mut counts = Vec::with_capacity(alloc, last as usize + 1)?;
+    for d in 0..last + 1 {
+        let part = split(edges, lo, middle, hi, d);
+        counts.push(upper[part as usize] + lower[(d - part) as usize])?;
+    }
     Ok(counts)
 }
 
 impl Mask {
-    /// For each delay from 0 to `max_delay` spectra, how many cells of its path lie in channels that are kept. The
-    /// dispersion transform itself counts them, over spectra that are 1 in these channels and 0 in all others.
+    /// For each delay from 0 to `max_delay` spectra, how many cells of its path lie in channels that are kept.
     pub fn count_cells(
         &self,
         alloc: Global,
@@ -100,6 +98,9 @@ impl Mask {
             → slice_index counts.items d
             ≡ kept_cells (kept_by self.now) (edges_of obs.now) obs.now.channels d) }
     {
-        counts(alloc, obs.edges(), self.masked.as_slice(), max_delay)
+        path_sums_count_cells();
+        whole_band_is_path_sum();
+        let masked = self.masked.as_slice();
+        Ok(count_part(alloc, obs.edges(), masked, 0, masked.len(), max_delay)?)
     }
 }
