@@ -84,40 +84,31 @@ pub small_more : (n : ℕ) (lows highs row counts totals squares counts' totals'
     → ((i : ℕ) → slice_index row i ≤ 4194303)
     → length counts' ≡ length row → length totals' ≡ length row → length squares' ≡ length row
     → AreSmall (n + 1) counts' totals' squares'
-small_more n lows highs row counts totals squares counts' totals' squares' small adds values lc lt ls = record {
-  count = λ i. elim (cases_lt i (length row)) [
-    | inl h ↦ omega (
-      arith,
-      adds.count i h,
-      small.count i,
-      part_one (slice_index lows i) (slice_index highs i) (slice_index row i),
-    )
-    | inr h ↦ omega (arith, get_or_past counts' i 0 (omega arith))
-  ];
-  total = λ i. elim (cases_lt i (length row)) [
-    | inl h ↦ omega (
-      arith,
-      adds.count i h,
-      adds.total i h,
-      small.total i,
-      part_most (slice_index lows i) (slice_index highs i) (slice_index row i) (slice_index row i) 4194303 (values i),
-    )
-    | inr h ↦ omega (arith, get_or_past totals' i 0 (omega arith))
-  ];
-  square = λ i. elim (cases_lt i (length row)) [
-    | inl h ↦ omega (
-      arith,
-      adds.count i h,
-      adds.square i h,
-      small.square i,
-      part_most (slice_index lows i) (slice_index highs i) (slice_index row i)
-          (slice_index row i * slice_index row i) 17592177655809
-          (let e : slice_index row i * slice_index row i ≤ 4194303 * 4194303 = mul-le-mul (values i) (values i) in
-          omega (arith, e)),
-    )
-    | inr h ↦ omega (arith, get_or_past squares' i 0 (omega arith))
-  ];
-}
+small_more n lows highs row counts totals squares counts' totals' squares' small adds values lc lt ls i =
+    elim (cases_lt i (length row)) [
+      | inl h ↦
+          let low = slice_index lows i in
+          let high = slice_index highs i in
+          let x = slice_index row i in
+          let before = small i in
+          let e : x * x ≤ 4194303 * 4194303 = mul-le-mul (values i) (values i) in
+          record {
+            count = omega (arith, adds.count i h, before.count, part_one low high x);
+            total = omega (arith, adds.count i h, adds.total i h, before.total, part_most low high x x 4194303 (values i));
+            squares = omega (
+              arith,
+              adds.count i h,
+              adds.square i h,
+              before.squares,
+              part_most low high x (x * x) 17592177655809 (omega (arith, e)),
+            );
+          }
+      | inr h ↦ record {
+        count = omega (arith, get_or_past counts' i 0 (omega arith));
+        total = omega (arith, get_or_past totals' i 0 (omega arith));
+        squares = omega (arith, get_or_past squares' i 0 (omega arith));
+      }
+    ]
 
 -- a row of which none lies beyond the bounds
 part_none : (low high x y : ℕ) → far_part low high x 1 ≡ 0 → far_part low high x y ≡ 0
@@ -142,11 +133,8 @@ adds_none lows highs row counts totals squares none = record {
 
 pub small_on : (n : ℕ) (counts totals squares : List ℕ) → AreSmall n counts totals squares
     → AreSmall (n + 1) counts totals squares
-small_on n counts totals squares small = record {
-  count = λ i. omega (arith, small.count i);
-  total = small.total;
-  square = small.square;
-}
+small_on n counts totals squares small i =
+    let s = small i in record { count = omega arith; total = s.total; squares = s.squares }
 
 -- ---- the sums of all values
 

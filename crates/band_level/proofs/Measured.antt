@@ -1,44 +1,21 @@
 -- The scale of a cell, from sums of all its values and then of those near their mean.
-use Rattle.std.proofs.Common.{◌≡◌, ℕ, zero, suc, ◌+◌, ◌-◌, ◌*◌, ◌<◌, ◌≤◌, inl, inr, Bool, true, false, not, cond, eqb, List, [], ◌∷◌, length, map, slice_index, refl, sym, ◌∙◌, ap, arith}
-use Rattle.std.specs.List.{range_with_len, sum_by, filter}
+use Rattle.std.proofs.Common.{◌≡◌, ℕ, ◌+◌, ◌-◌, ◌*◌, ◌<◌, ◌≤◌, inl, inr, Bool, true, false, cond, eqb, List, length, map, slice_index, refl, sym, ◌∙◌, ap, subst, arith}
+use Rattle.std.specs.List.{All, range_with_len, sum_by, filter}
 use Rattle.std.proofs.Math.Nat.{mul-le-mul}
 use Rattle.std.proofs.lemmas.Bool.{cases_lt}
 use Rattle.std.proofs.lemmas.Bool.Decides.{nat_tests}
 use Rattle.std.proofs.lemmas.List.{get_or_past}
-use Rattle.std.proofs.lemmas.List.Filters.{length-filter_both}
-use Rattle.std.proofs.lemmas.List.Sums.{sum_by-cons, length-filter, count_by-le-length}
+use Rattle.std.proofs.lemmas.List.Elements.{All-filter}
+use Rattle.std.proofs.lemmas.List.Filters.{length-filter_both, sum_by-filter_both}
+use Rattle.std.proofs.lemmas.List.Sums.{sum_by-le}
 use Rattle.std.proofs.lemmas.List.FromFn.{length-map-range_with_len}
 use Rattle.band_level.specs.declared.plan.Plan.{Plan}
-use Rattle.band_level.specs.Columns.{AreBelow, AreFarSums, AreNear, AreSmall, AreTotals, LeavesOut, column, near_column, is_between, moments_held}
+use Rattle.band_level.specs.Columns.{AreBelow, AreFarSums, AreNear, AreSmall, AreTotals, LeavesOut, column, near_column, far_column, is_between, is_far, moments_held}
 use Rattle.band_level.specs.Moments.{Moments, moments, near_values, fair_moments, is_near}
 use Rattle.band_level.specs.Rows.{SetsScales}
 use Rattle.band_level.specs.Scales.{Scale, scale_of}
-
--- filters that agree at each value
-pub filters_agree : (p q : ℕ → Bool) (f : ℕ → ℕ) (a n : ℕ) → ((t : ℕ) → a ≤ t → t < a + n → p (f t) ≡ q (f t))
-    → filter p (map f (range_with_len a n)) ≡ filter q (map f (range_with_len a n))
-filters_agree p q f a zero same = refl
-filters_agree p q f a (suc n) same =
-    let rest = filters_agree p q f (a + 1) n (λ t low high. same t (omega arith) (omega arith)) in
-    ap (λ ys. cond (p (f a)) (f a ∷ ys) ys) rest
-    ∙ ap (λ b. cond b (f a ∷ filter q (map f (range_with_len (a + 1) n))) (filter q (map f (range_with_len (a + 1) n))))
-    (same a (omega arith) (omega arith))
-
-abbrev moments_with : ℕ → ℕ → ℕ → Moments
-moments_with count total squares = record { count = count; total = total; squares = squares }
-
-moments_same : (a b c d e f : ℕ) → a ≡ d → b ≡ e → c ≡ f → moments_with a b c ≡ moments_with d e f
-moments_same a b c d e f x y z =
-    ap (λ v. moments_with v b c) x ∙ ap (λ v. moments_with d v c) y ∙ ap (λ v. moments_with d e v) z
-
--- moments in lists that are the same
-pub moments_same_in : {counts totals squares counts' totals' squares' : List ℕ} {m : Moments} (i : ℕ)
-    → counts' ≡ counts → totals' ≡ totals → squares' ≡ squares
-    → moments_held counts totals squares i ≡ m → moments_held counts' totals' squares' i ≡ m
-moments_same_in i c t q is =
-    moments_same _ _ _ _ _ _ (ap (λ xs. slice_index xs i) c) (ap (λ xs. slice_index xs i) t)
-    (ap (λ xs. slice_index xs i) q)
-    ∙ is
+use Rattle.band_level.specs.Sizes.{MomentsWithin}
+use Rattle.band_level.proofs.Ranges.{all_of, few_left, filters_agree}
 
 -- ---- all values
 
@@ -54,46 +31,31 @@ pub all_moments : (value : ℕ → ℕ → ℕ) (cells n : ℕ) (counts totals s
     → ((i : ℕ) → i < cells → slice_index counts i ≡ n) → AreTotals value cells n totals squares
     → (i : ℕ) → i < cells → moments_held counts totals squares i ≡ moments (column value n i)
 all_moments value cells n counts totals squares counted sums i here =
-    let xs = column value n i in
-    moments_same _ _ _ (length xs) (sum_by (λ x. x) xs) (sum_by (λ x. x * x) xs)
-    (counted i here ∙ sym (length-map-range_with_len (λ t. value t i) 0 n))
-    (sums.total i here) (sums.square i here)
+    rw (counted i here, sums.total i here, sums.square i here, length-map-range_with_len (λ t. value t i) 0 n) refl
+
+-- no moments lie beyond all cells
+none_past : (n cells i : ℕ) (counts totals squares : List ℕ) → length counts ≡ cells → length totals ≡ cells
+    → length squares ≡ cells → cells ≤ i → MomentsWithin n (moments_held counts totals squares i)
+none_past n cells i counts totals squares lc lt ls past = record {
+  count = omega (arith, get_or_past counts i 0 (omega arith));
+  total = omega (arith, get_or_past totals i 0 (omega arith));
+  squares = omega (arith, get_or_past squares i 0 (omega arith));
+}
 
 pub all_small : (cells n : ℕ) (counts totals squares : List ℕ) → n ≤ 1048576
     → length counts ≡ cells → length totals ≡ cells → length squares ≡ cells
     → ((i : ℕ) → i < cells → slice_index counts i ≡ n) → AreBelow n totals squares
     → AreSmall 1048576 counts totals squares
-all_small cells n counts totals squares few lc lt ls counted below = record {
-  count = λ i. elim (cases_lt i cells) [
-    | inl h ↦ omega (arith, counted i h)
-    | inr h ↦ omega (arith, get_or_past counts i 0 (omega arith))
-  ];
-  total = λ i. elim (cases_lt i cells) [
-    | inl h ↦ omega (arith, counted i h, below.total i)
-    | inr h ↦ omega (arith, get_or_past totals i 0 (omega arith))
-  ];
-  square = λ i. elim (cases_lt i cells) [
-    | inl h ↦ omega (arith, counted i h, below.square i)
-    | inr h ↦ omega (arith, get_or_past squares i 0 (omega arith))
-  ];
-}
+all_small cells n counts totals squares few lc lt ls counted below i = elim (cases_lt i cells) [
+  | inl h ↦ record {
+    count = omega (arith, counted i h);
+    total = omega (arith, counted i h, below.total i);
+    squares = omega (arith, counted i h, below.square i);
+  }
+  | inr h ↦ none_past 1048576 cells i counts totals squares lc lt ls h
+]
 
 -- ---- values between the bounds
-
-sum_split : (f : ℕ → ℕ) (b : Bool) (x : ℕ) (ys zs : List ℕ)
-    → sum_by f (cond b (x ∷ ys) ys) + sum_by f (cond (not b) (x ∷ zs) zs) ≡ f x + (sum_by f ys + sum_by f zs)
-sum_split f true x ys zs = omega (arith, sum_by-cons f x ys)
-sum_split f false x ys zs = omega (arith, sum_by-cons f x zs)
-
-sum_both : (f : ℕ → ℕ) (p : ℕ → Bool) (xs : List ℕ)
-    → sum_by f (filter p xs) + sum_by f (filter (λ x. not (p x)) xs) ≡ sum_by f xs
-sum_both f p [] = refl
-sum_both f p (x ∷ xs) =
-    sum_split f (p x) x (filter p xs) (filter (λ y. not (p y)) xs)
-    ∙ ap (λ s. f x + s) (sum_both f p xs) ∙ sym (sum_by-cons f x xs)
-
-left_of : (all far near left : ℕ) → near + far ≡ all → left ≡ all - far → left ≡ near
-left_of all far near left both is = omega arith
 
 pub near_moments : (value : ℕ → ℕ → ℕ) (cells n : ℕ) (lows highs counts totals squares far_counts far_totals far_squares
     counts' totals' squares' : List ℕ)
@@ -106,81 +68,40 @@ near_moments value cells n lows highs counts totals squares far_counts far_total
     all far leaves i here =
     let xs = column value n i in
     let p = is_between (slice_index lows i) (slice_index highs i) in
+    let q = is_far (slice_index lows i) (slice_index highs i) in
     let is = all i here in
-    let count = ap (λ (m : Moments). m.count) is in
-    let total = ap (λ (m : Moments). m.total) is in
-    let square = ap (λ (m : Moments). m.squares) is in
-    let near = filter p xs in
-    moments_same _ _ _ (length near) (sum_by (λ x. x) near) (sum_by (λ x. x * x) near)
-    (left_of (length xs) _ (length near) _ (length-filter_both p (λ x. not (p x)) (λ x. refl) xs)
-    (leaves.count i here ∙ ap (λ a. a - slice_index far_counts i) count
-    ∙ ap (λ b. length xs - b) (far.count i here)))
-    (left_of (sum_by (λ x. x) xs) _ (sum_by (λ x. x) near) _ (sum_both (λ x. x) p xs)
-    (leaves.total i here ∙ ap (λ a. a - slice_index far_totals i) total
-    ∙ ap (λ b. sum_by (λ x. x) xs - b) (far.total i here)))
-    (left_of (sum_by (λ x. x * x) xs) _ (sum_by (λ x. x * x) near) _ (sum_both (λ x. x * x) p xs)
-    (leaves.square i here ∙ ap (λ a. a - slice_index far_squares i) square
-    ∙ ap (λ b. sum_by (λ x. x * x) xs - b) (far.square i here)))
-
-sum_kept : (f : ℕ → ℕ) (most : ℕ) (b : Bool) (x : ℕ) (ys : List ℕ) → f x ≤ most → sum_by f ys ≤ length ys * most
-    → sum_by f (cond b (x ∷ ys) ys) ≤ length (cond b (x ∷ ys) ys) * most
-sum_kept f most true x ys small rest =
-    let e : length (x ∷ ys) * most ≡ length ys * most + most = omega arith in
-    omega (arith, sum_by-cons f x ys)
-sum_kept f most false x ys small rest = rest
-
-sum_most : (f : ℕ → ℕ) (most : ℕ) (p : ℕ → Bool) (g : ℕ → ℕ) (a n : ℕ)
-    → ((t : ℕ) → a ≤ t → t < a + n → f (g t) ≤ most)
-    → sum_by f (filter p (map g (range_with_len a n))) ≤ length (filter p (map g (range_with_len a n))) * most
-sum_most f most p g a zero small = omega arith
-sum_most f most p g a (suc n) small =
-    sum_kept f most (p (g a)) (g a) (filter p (map g (range_with_len (a + 1) n)))
-    (small a (omega arith) (omega arith))
-    (sum_most f most p g (a + 1) n (λ t low high. small t (omega arith) (omega arith)))
-
-near_few : (p : ℕ → Bool) (xs : List ℕ) → length (filter p xs) ≤ length xs
-near_few p xs = let e = length-filter p xs in let h = count_by-le-length p xs in omega arith
+    let counted : slice_index counts i ≡ length xs = ap (λ (m : Moments). m.count) is in
+    let summed : slice_index totals i ≡ sum_by (λ x. x) xs = ap (λ (m : Moments). m.total) is in
+    let squared : slice_index squares i ≡ sum_by (λ x. x * x) xs = ap (λ (m : Moments). m.squares) is in
+    let count : slice_index counts' i ≡ length (filter p xs) =
+    omega (arith, counted, leaves.count i here, far.count i here, length-filter_both p q (λ x. refl) xs) in
+    let total : slice_index totals' i ≡ sum_by (λ x. x) (filter p xs) =
+    omega (arith, summed, leaves.total i here, far.total i here, sum_by-filter_both p q (λ x. refl) (λ x. x) xs) in
+    let square : slice_index squares' i ≡ sum_by (λ x. x * x) (filter p xs) =
+    omega (arith, squared, leaves.square i here, far.square i here, sum_by-filter_both p q (λ x. refl) (λ x. x * x) xs) in
+    rw (count, total, square) refl
 
 pub near_small : (value : ℕ → ℕ → ℕ) (cells n : ℕ) (lows highs counts totals squares : List ℕ) → n ≤ 1048576
     → length counts ≡ cells → length totals ≡ cells → length squares ≡ cells
     → ((t i : ℕ) → t < n → i < cells → value t i ≤ 4194303)
     → ((i : ℕ) → i < cells → moments_held counts totals squares i ≡ moments (near_column value lows highs n i))
     → AreSmall 1048576 counts totals squares
-near_small value cells n lows highs counts totals squares few lc lt ls small near = record {
-  count = λ i. elim (cases_lt i cells) [
-    | inl h ↦
-        let is = ap (λ (m : Moments). m.count) (near i h) in
-        omega (
-          arith,
-          is,
-          near_few (is_between (slice_index lows i) (slice_index highs i)) (column value n i),
-          length-map-range_with_len (λ t. value t i) 0 n,
-        )
-    | inr h ↦ omega (arith, get_or_past counts i 0 (omega arith))
-  ];
-  total = λ i. elim (cases_lt i cells) [
-    | inl h ↦
-        let counted = ap (λ (m : Moments). m.count) (near i h) in
-        let is = ap (λ (m : Moments). m.total) (near i h) in
-        let most = sum_most (λ x. x) 4194303 (is_between (slice_index lows i) (slice_index highs i)) (λ t. value t i) 0 n
-        (λ t from to. small t i (omega arith) h) in
-        omega (arith, counted, is, most)
-    | inr h ↦ omega (arith, get_or_past totals i 0 (omega arith))
-  ];
-  square = λ i. elim (cases_lt i cells) [
-    | inl h ↦
-        let counted = ap (λ (m : Moments). m.count) (near i h) in
-        let is = ap (λ (m : Moments). m.squares) (near i h) in
-        let most = sum_most (λ x. x * x) 17592177655809 (is_between (slice_index lows i) (slice_index highs i))
-        (λ t. value t i) 0 n
-        (λ t from to.
-        let e : value t i * value t i ≤ 4194303 * 4194303 =
-        mul-le-mul (small t i (omega arith) h) (small t i (omega arith) h) in
-        omega (arith, e)) in
-        omega (arith, counted, is, most)
-    | inr h ↦ omega (arith, get_or_past squares i 0 (omega arith))
-  ];
-}
+near_small value cells n lows highs counts totals squares few lc lt ls small near i = elim (cases_lt i cells) [
+  | inl h ↦
+      let xs = column value n i in
+      let p = is_between (slice_index lows i) (slice_index highs i) in
+      let within = all_of (λ x. x ≤ 4194303) (λ t. value t i) n (λ t from. small t i from h) in
+      let squares_within = all_of (λ x. x * x ≤ 17592177655809) (λ t. value t i) n
+      (λ t from. let e = mul-le-mul (small t i from h) (small t i from h) in omega (arith, e)) in
+      subst (MomentsWithin 1048576) (sym (near i h))
+      record {
+        count = omega (arith, few_left p xs, length-map-range_with_len (λ t. value t i) 0 n);
+        total = sum_by-le (λ x. x) 4194303 (filter p xs) (All-filter p (λ x. x ≤ 4194303) xs within);
+        squares = sum_by-le (λ x. x * x) 17592177655809 (filter p xs)
+            (All-filter p (λ x. x * x ≤ 17592177655809) xs squares_within);
+      }
+  | inr h ↦ none_past 1048576 cells i counts totals squares lc lt ls h
+]
 
 -- what is left out, of as many cells as another number says
 pub leaves_for : {n m : ℕ} {counts totals squares far_counts far_totals far_squares counts' totals' squares' : List ℕ}
@@ -224,10 +145,11 @@ pub fair_scales : (p : Plan) (mark : ℕ → Bool) (value : ℕ → ℕ → ℕ)
 fair_scales p mark value cells n counts totals squares lows highs counts' totals' squares'
     scale scale' scale'' small all some near set all' set' i here =
     let xs = column value n i in
+    let between = is_between (slice_index lows i) (slice_index highs i) in
+    let near_mean = is_near (moments xs) in
     let near_ones : near_column value lows highs n i ≡ near_values xs =
-    filters_agree (is_between (slice_index lows i) (slice_index highs i)) (is_near (moments xs)) (λ t. value t i) 0 n
-    (λ t from to. near.near i (value t i) here (omega (arith, small t i (omega arith) here))
-    ∙ ap (λ m. is_near m (value t i)) (all i here)) in
+    filters_agree between near_mean xs (all_of (λ x. between x ≡ near_mean x) (λ t. value t i) n
+    (λ t lt. near.near i (value t i) here (omega (arith, small t i lt here)) ∙ ap (λ m. is_near m (value t i)) (all i here))) in
     fair_is p (mark i) xs _ (scale' i) (moments_held counts' totals' squares' i)
     (all' i here ∙ ap moments near_ones)
     (set'.set i here) (set'.kept i)

@@ -2,22 +2,11 @@
 use Rattle.std.proofs.Common.{◌≡◌, ℕ, zero, suc, ◌+◌, ◌*◌, ◌/◌, ◌%◌, ◌<◌, ◌≤◌, ◌⊎◌, inl, inr, ◌==◌, Bool, List, slice_index, if◌then◌else◌, refl, ◌∙◌, sym, ap, subst, arith}
 use Rattle.std.specs.List.{range_with_len, sum_by}
 use Rattle.std.proofs.Math.Nat.{mul-le-mul_right}
-use Rattle.std.proofs.lemmas.List.Sums.{sum_by-cons}
 use Rattle.band_level.specs.declared.format.Format.{Format}
 use Rattle.band_level.specs.Ranges.{FormatInRange}
 use Rattle.band_level.specs.Values.{cells, spectrum_bytes, value_at, cell_value}
+use Rattle.band_level.proofs.Ranges.{sums_agree}
 use Rattle.band_level.proofs.Values.{read_inside}
-
--- sums over a range that agree at each number
-pub sums_agree : (f g : ℕ → ℕ) (a n : ℕ) → ((t : ℕ) → a ≤ t → t < a + n → f t ≡ g t)
-    → sum_by f (range_with_len a n) ≡ sum_by g (range_with_len a n)
-sums_agree f g a zero same = refl
-sums_agree f g a (suc n) same =
-    let rest = sums_agree f g (a + 1) n (λ t low high. same t (omega arith) (omega arith)) in
-    sum_by-cons f a (range_with_len (a + 1) n)
-    ∙ ap (λ s. f a + s) rest
-    ∙ ap (λ v. v + sum_by g (range_with_len (a + 1) n)) (same a (omega arith) (omega arith))
-    ∙ sym (sum_by-cons g a (range_with_len (a + 1) n))
 
 -- ---- words
 
@@ -96,8 +85,8 @@ pub cell_shift : (f : Format) (xs ys : List ℕ) (d limit t u i : ℕ) → Forma
     → cell_value f xs t i ≡ cell_value f ys u i
 cell_shift f xs ys d limit t u i range same at fits here =
     sums_agree (λ k. value_at f xs ((t * f.average + k) * cells f + i))
-    (λ k. value_at f ys ((u * f.average + k) * cells f + i)) 0 f.average
-    (λ k low high.
+    (λ k. value_at f ys ((u * f.average + k) * cells f + i)) f.average
+    (λ k lt.
     value_shift f xs ys d limit _ _ range.bits same
     (place d t u f.average (cells f) (f.bits / 8) k i at)
-    (inside t f.average (cells f) (f.bits / 8) k i limit (omega arith) here fits))
+    (inside t f.average (cells f) (f.bits / 8) k i limit lt here fits))

@@ -13,14 +13,14 @@ use Rattle.band_level.specs.Spectra.{AreHeld, Carried, LevelsSpectra}
 use Rattle.band_level.proofs.Ranges.{sum_range_more}
 
 -- what all spectra before have, and one more
-fine_more : (k : Task) (b : Band) (i t : ℕ) → fine_before k b i (t + 1) ≡ fine_before k b i t + fine k b i t
+pub fine_more : (k : Task) (b : Band) (i t : ℕ) → fine_before k b i (t + 1) ≡ fine_before k b i t + fine k b i t
 unfolding fine_before
 fine_more k b i t = sum_range_more (fine k b i) t
 
 abbrev scale_held' : ℕ → ℕ → ℕ → Scale
 scale_held' gain base lift = record { gain = gain; base = base; lift = lift }
 
-fine_is : (k : Task) (b : Band) (i t gain base lift x : ℕ)
+pub fine_is : (k : Task) (b : Band) (i t gain base lift x : ℕ)
     → scale_held' gain base lift ≡ scale_at k b t i → x ≡ b.value t i → base + gain * x ≡ fine k b i t
 unfolding fine
 fine_is k b i t gain base lift x scale is =

@@ -18,7 +18,8 @@ use Rattle.band_level.specs.Spectra.{written_bytes}
 use Rattle.band_level.specs.Levelling.{Levelling, IsAt, StandsFor, Waits, Levels, band_of, pending}
 use Rattle.band_level.specs.Steps.{HeldScales}
 use Rattle.band_level.proofs.Puts.{cell_more, cell_dropped, held_is}
-use Rattle.band_level.proofs.Agreeing.{Agree, before_agrees, levels_agree, scales_agree, maps_agree}
+use Rattle.band_level.proofs.Agreeing.{Agree, before_agrees, levels_agree, scales_agree}
+use Rattle.band_level.proofs.Ranges.{maps_agree}
 
 -- ---- sizes
 
@@ -177,8 +178,8 @@ held_scales l bytes start stretch count gains bases lifts range place is_start f
     let f = l.task.format in
     let n = l.task.plan.spectra in
     let values : column (held_value f l.held) count i ≡ stretch_values l.task (band_of l bytes) stretch i =
-    maps_agree (λ j. held_value f l.held j i) (λ j. cell_value f bytes (stretch * n + j) i) 0 count
-    (λ j low high.
+    maps_agree 0 (λ j. held_value f l.held j i) (λ j. cell_value f bytes (stretch * n + j) i) count
+    (λ j lt_count.
     let part : (j + 1) * spectrum_bytes f ≤ count * spectrum_bytes f = mul-le-mul_right _ (omega arith) in
     let e : start + j ≡ stretch * n + j = omega arith in
     held_cells l bytes start j i range place (omega arith) lt ∙ ap (λ u. cell_value f bytes u i) e)
