@@ -1,16 +1,17 @@
 -- The beginning and the end of the data.
-use Rattle.std.proofs.Common.{◌≡◌, ℕ, refl, ◌+◌, ◌*◌, ◌/◌, ◌%◌, ◌<◌, ◌≤◌, inl, inr, true, false, List, [], length, drop, slice_index, ◌∙◌, sym, ap, subst, arith}
+use Rattle.std.proofs.Common.{◌≡◌, ℕ, refl, ◌+◌, ◌-◌, ◌*◌, ◌/◌, ◌%◌, ◌<◌, ◌≤◌, inl, inr, Bool, true, false, List, [], length, drop, slice_index, ◌∙◌, sym, ap, subst, arith}
 use Rattle.std.proofs.lemmas.Nat.{div-mul-add, div-add-mod', mod_below, div_below}
 use Rattle.band_level.specs.Ranges.{FormatInRange}
-use Rattle.band_level.specs.Values.{Band, spectrum_bytes}
+use Rattle.band_level.specs.Values.{Band, cells, spectrum_bytes}
 use Rattle.band_level.specs.Holding.{Holding, Holds, cleared, held_bytes}
 use Rattle.band_level.proofs.Puts.{holds_nothing}
 use Rattle.band_level.specs.Scales.{unit}
-use Rattle.band_level.specs.Levelled.{Task, fine_before, first_levels}
-use Rattle.band_level.specs.Levelling.{Levelling, IsAt, Waits, Levels, band_of, pending}
-use Rattle.band_level.specs.Steps.{HeldScales}
-use Rattle.band_level.proofs.Standing.{held_scales, is_waiting, some_bytes}
-use Rattle.band_level.proofs.Giving.{quotient, short_of}
+use Rattle.band_level.specs.Levelled.{Task, scale_by, fine_before, first_levels}
+use Rattle.band_level.specs.Rows.{HoldScales}
+use Rattle.band_level.specs.Levelling.{Levelling, IsAt, StandsFor, Waits, Levels, EndsAs, band_of, pending}
+use Rattle.band_level.specs.Steps.{HeldScales, Measures}
+use Rattle.band_level.proofs.Standing.{at_front, held_scales, is_waiting, product_some, scheduled, some_bytes}
+use Rattle.band_level.proofs.Giving.{quotient}
 
 -- ---- the beginning
 
@@ -46,7 +47,7 @@ starts l range some held first last not_scaled goes_on none =
           goes_on = goes_on;
           first = first;
           last = last;
-          short = let h = short_of l.task.plan.spectra sb some (some_bytes l.task.format range) in omega arith;
+          short = let h = product_some l.task.plan.spectra sb some (some_bytes l.task.format range) in omega arith;
           scaled = λ is_scaled. let e : true ≡ false = sym is_scaled ∙ not_scaled in absurd (cc);
           begins = λ e. refl;
         };
@@ -75,86 +76,82 @@ few l start stretch range waits =
     div_below (held_bytes l.task.format l.held) (spectrum_bytes l.task.format) l.task.plan.spectra
     (some_bytes l.task.format range) waits.short
 
--- with the scales that are there
-pub ends_scaled : (l : Levelling) (count : ℕ) (bytes out : List ℕ) → FormatInRange l.task.format
-    → 0 < l.task.plan.spectra → l.has_ended ≡ false → pending l ≡ 0
-    → count ≡ held_bytes l.task.format l.held / spectrum_bytes l.task.format → (0 < count → l.is_scaled ≡ true)
-    → Levels l bytes out → Levels (record l { first = 0; last = count; has_ended = true }) bytes out
-ends_scaled l count bytes out range some goes_on none is_count scaled (start, stretch, stands, is_out) =
-    let n = l.task.plan.spectra in
-    let waits = is_waiting l bytes start stretch stands goes_on none in
-    let total = spectra_are l bytes start range stands.place in
-    let short = few l start stretch range waits in (
-      start,
-      stretch,
+module _ (l : Levelling) (count : ℕ) (range : FormatInRange l.task.format) (goes_on : l.has_ended ≡ false)
+    (none : pending l ≡ 0) (is_count : count ≡ held_bytes l.task.format l.held / spectrum_bytes l.task.format) where
+  -- the scales are those of stretch `to`, if spectra are left, which begin behind q whole stretches
+  ends_at : (gains bases lifts : List ℕ) (is_scaled : Bool) (bytes : List ℕ) (start stretch to q : ℕ)
+      → IsAt l bytes start → Waits l start stretch
+      → (0 < count → is_scaled ≡ true) → (0 < count → start ≡ q * l.task.plan.spectra) → (0 < count → to ≡ q - 1)
+      → (is_scaled ≡ true
+      → HoldScales (cells l.task.format) (scale_by l.task (band_of l bytes) to) gains bases lifts)
+      → StandsFor (scheduled l gains bases lifts is_scaled count true) bytes start to
+  ends_at gains bases lifts is_scaled bytes start stretch to q place waits scaled begins is_to scales =
+      let n = l.task.plan.spectra in
+      let total = spectra_are l bytes start range place in
+      let short = few l start stretch range waits in
       record {
-        place = record {
-          size = stands.place.size;
-          held = stands.place.held;
-          carried = λ i lt. stands.place.carried i lt
-              ∙ ap (λ n. fine_before l.task (band_of l bytes) i (start + n) % unit) waits.first;
-        };
+        place = at_front l gains bases lifts is_scaled count true bytes start waits.first place;
         order = omega arith;
-        scales = stands.scales;
+        scales = scales;
         stage = inr (inr record {
           ended = refl;
           last = omega arith;
           scaled = scaled;
           here = λ t low high.
-              let next = waits.scaled (scaled (omega arith)) in
-              let own : t / n ≡ stretch + 1 = quotient t (stretch + 1) n (omega arith) (omega arith) in
-              let all : (band_of l bytes).spectra / n ≡ stretch + 1 =
-              quotient (band_of l bytes).spectra (stretch + 1) n (omega arith) (omega arith) in
+              let is_start = begins (omega arith) in
+              let last_is = is_to (omega arith) in
+              let mine : t / n ≡ q = quotient t q n (omega arith) (omega arith) in
+              let all : (band_of l bytes).spectra / n ≡ q =
+              quotient (band_of l bytes).spectra q n (omega arith) (omega arith) in
               omega arith;
         });
-      },
-      is_out ∙ ap (λ n. first_levels l.task (band_of l bytes) (start + n)) waits.first,
-    )
+      }
 
--- with the scales of what is held, where there are none
-pub ends_short : (l : Levelling) (count : ℕ) (bytes out gains bases lifts : List ℕ) → FormatInRange l.task.format
-    → 0 < l.task.plan.spectra → l.has_ended ≡ false → pending l ≡ 0
-    → count ≡ held_bytes l.task.format l.held / spectrum_bytes l.task.format
-    → count * spectrum_bytes l.task.format ≤ held_bytes l.task.format l.held
-    → l.is_scaled ≡ false → HeldScales l l.held count gains bases lifts
-    → Levels l bytes out
-    → Levels (record l {
-      gains = gains;
-      bases = bases;
-      lifts = lifts;
-      is_scaled = true;
-      first = 0;
-      last = count;
-      has_ended = true;
-    }) bytes out
-ends_short l count bytes out gains bases lifts range some goes_on none is_count fits not_scaled scales
-    (start, stretch, stands, is_out) =
-    let n = l.task.plan.spectra in
-    let waits = is_waiting l bytes start stretch stands goes_on none in
-    let total = spectra_are l bytes start range stands.place in
-    let short = few l start stretch range waits in
-    let zero_start = waits.begins not_scaled in (
-      start,
-      0,
+  levels_scaled : (0 < count → l.is_scaled ≡ true) → (bytes out : List ℕ) → Levels l bytes out
+      → Levels (scheduled l l.gains l.bases l.lifts l.is_scaled count true) bytes out
+  levels_scaled scaled bytes out (start, stretch, stands, is_out) =
+      let waits = is_waiting l bytes start stretch stands goes_on none in (
+        start,
+        stretch,
+        ends_at l.gains l.bases l.lifts l.is_scaled bytes start stretch stretch (stretch + 1) stands.place waits
+            scaled (λ there. waits.scaled (scaled there)) (λ there. omega arith) stands.scales,
+        is_out ∙ ap (λ n. first_levels l.task (band_of l bytes) (start + n)) waits.first,
+      )
+
+  levels_made : (gains bases lifts : List ℕ) → 0 < l.task.plan.spectra
+      → count * spectrum_bytes l.task.format ≤ held_bytes l.task.format l.held → l.is_scaled ≡ false
+      → HeldScales l l.held count gains bases lifts → (bytes out : List ℕ) → Levels l bytes out
+      → Levels (scheduled l gains bases lifts true count true) bytes out
+  levels_made gains bases lifts some fits not_scaled scales bytes out (start, stretch, stands, is_out) =
+      let waits = is_waiting l bytes start stretch stands goes_on none in
+      let total = spectra_are l bytes start range stands.place in
+      let short = few l start stretch range waits in
+      let at_zero = waits.begins not_scaled in (
+        start,
+        0,
+        ends_at gains bases lifts true bytes start stretch 0 0 stands.place waits
+            (λ there. refl) (λ there. omega arith) (λ there. omega arith)
+            (λ is_scaled. held_scales l bytes start 0 count gains bases lifts range stands.place (omega arith) fits
+            (omega arith) scales),
+        is_out ∙ ap (λ n. first_levels l.task (band_of l bytes) (start + n)) waits.first,
+      )
+
+  -- with the scales that are there
+  pub ends_scaled : (m : Levelling) → m ≡ record l { first = 0; last = count; has_ended = true }
+      → (0 < count → l.is_scaled ≡ true) → EndsAs l m
+  ends_scaled m is scaled =
+      subst (λ (x : Levelling). EndsAs l x) (sym is)
+      record { task = refl; ended = refl; levels = levels_scaled scaled }
+
+  -- with the scales of what is held, where there are none
+  pub ends_made : (mid m : Levelling) → mid ≡ record l { first = 0; last = count; has_ended = true }
+      → 0 < l.task.plan.spectra → count * spectrum_bytes l.task.format ≤ held_bytes l.task.format l.held
+      → l.is_scaled ≡ false → Measures mid m count → EndsAs l m
+  ends_made mid m is some fits not_scaled measures =
+      let made = subst (λ (x : Levelling). Measures x m count) is measures in
+      subst (λ (x : Levelling). EndsAs l x) (sym made.same)
       record {
-        place = record {
-          size = stands.place.size;
-          held = stands.place.held;
-          carried = λ i lt. stands.place.carried i lt
-              ∙ ap (λ n. fine_before l.task (band_of l bytes) i (start + n) % unit) waits.first;
-        };
-        order = omega arith;
-        scales = λ is_scaled. held_scales l bytes start 0 count gains bases lifts range stands.place (omega arith) fits
-            (omega arith) scales;
-        stage = inr (inr record {
-          ended = refl;
-          last = omega arith;
-          scaled = λ some_spectra. refl;
-          here = λ t low high.
-              let all : (band_of l bytes).spectra / n ≡ 0 =
-              quotient (band_of l bytes).spectra 0 n (omega arith) (omega arith) in
-              omega arith;
-        });
-      },
-      is_out ∙ ap (λ n. first_levels l.task (band_of l bytes) (start + n)) waits.first,
-    )
+        task = refl;
+        ended = refl;
+        levels = levels_made m.gains m.bases m.lifts some fits not_scaled made.scales;
+      }

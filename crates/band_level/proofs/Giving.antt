@@ -1,7 +1,7 @@
 -- Spectra that are levelled, and the end of the data.
 use Rattle.std.proofs.Common.{◌≡◌, ℕ, zero, suc, refl, ◌+◌, ◌-◌, ◌*◌, ◌/◌, ◌%◌, ◌<◌, ◌≤◌, inl, inr, true, false, List, [], ◌++◌, length, drop, slice_index, ◌∙◌, sym, ap, subst, append_assoc, append-nil, arith}
 use Rattle.std.specs.List.{range_with_len, flat_map}
-use Rattle.std.proofs.Math.Nat.{mul-le-mul, mul-le-mul_right, div-mul-le_self}
+use Rattle.std.proofs.Math.Nat.{mul-le-mul_right, div-mul-le_self}
 use Rattle.std.proofs.lemmas.List.{drop_all}
 use Rattle.std.proofs.lemmas.Nat.{le-div, div-mul-add}
 use Rattle.band_level.proofs.Ranges.{flat_map_range_more}
@@ -10,11 +10,12 @@ use Rattle.band_level.specs.Values.{Band, cells, spectrum_bytes, cell_value}
 use Rattle.band_level.specs.Holding.{Holds, cleared, held_bytes}
 use Rattle.band_level.specs.Scales.{unit}
 use Rattle.band_level.specs.Levelled.{Task, scale_by, stretch_for, fine_before, first_levels, spectrum_levels}
-use Rattle.band_level.specs.Spectra.{AreHeld, AreLevelled, LevelsSpectra}
-use Rattle.band_level.specs.Levelling.{Levelling, IsAt, StandsFor, IsWhole, Ends, Levels, band_of, pending}
+use Rattle.band_level.specs.Spectra.{AreHeld, AreLevelled}
+use Rattle.band_level.specs.Levelling.{Levelling, IsAt, StandsFor, IsWhole, Ends, Levels, Gives, band_of, pending}
+use Rattle.band_level.specs.Steps.{MakesPiece}
 use Rattle.band_level.proofs.Agreeing.{own_stretch}
 use Rattle.band_level.proofs.Puts.{holds_nothing}
-use Rattle.band_level.proofs.Standing.{held_cells, some_bytes}
+use Rattle.band_level.proofs.Standing.{held_cells, product_some, some_bytes}
 
 -- ---- levels behind others
 
@@ -115,124 +116,123 @@ held_spectra l bytes start stretch count range stands is_ready few = record {
 
 -- ---- what a piece leaves
 
--- the next spectra are levelled
-pub record MakesSpectra (l : Levelling) (count : ℕ) (fractions piece : List ℕ) : Type 0 where
-  pub few : l.first + count ≤ l.last
-  pub levels : LevelsSpectra l.task l.held l.gains l.bases l.lifts l.first count l.fractions fractions
-      [] piece
-
-module _ (l : Levelling) (count : ℕ) (fractions piece : List ℕ) (range : FormatInRange l.task.format)
-    (some : 0 < l.task.plan.spectra) (next : 0 < pending l) (makes : MakesSpectra l count fractions piece)
-    (bytes out : List ℕ) (start stretch : ℕ) (stands : StandsFor l bytes start stretch)
-    (is_out : out ≡ first_levels l.task (band_of l bytes) (start + l.first)) where
-  made : AreLevelled l.task (band_of l bytes) (start + l.first) count fractions [] piece
-  made = makes.levels (band_of l bytes) (start + l.first)
-      (held_spectra l bytes start stretch count range stands (ready l bytes start stretch range some next stands) makes.few)
-      stands.place.carried
-
-  out_more : (n : ℕ) → n ≡ start + l.first + count → out ++ piece ≡ first_levels l.task (band_of l bytes) n
-  out_more n e =
-      ap (λ xs. xs ++ piece) is_out
-      ∙ ap (λ xs. first_levels l.task (band_of l bytes) (start + l.first) ++ xs) made.written
-      ∙ sym (levels_behind l.task (band_of l bytes) (start + l.first) count)
-      ∙ ap (λ m. first_levels l.task (band_of l bytes) m) (sym e)
-
-  carried_more : (n : ℕ) → n ≡ start + l.first + count → (i : ℕ) → i < cells l.task.format
-      → slice_index fractions i ≡ fine_before l.task (band_of l bytes) i n % unit
-  carried_more n e i lt =
-      made.carried i lt ∙ ap (λ m. fine_before l.task (band_of l bytes) i m % unit) (sym e)
-
 -- nothing is left behind all bytes
 dropped : (xs : List ℕ) → drop (length xs) xs ≡ []
 dropped xs = drop_all (length xs) xs (omega arith)
 
-pub short_of : (n size : ℕ) → 0 < n → 0 < size → 0 < n * size
-short_of n size some wide = let h : 1 * 1 ≤ n * size = mul-le-mul some wide in omega (arith, h)
+module _ (l m : Levelling) (range : FormatInRange l.task.format) (some : 0 < l.task.plan.spectra)
+    (next : 0 < pending l) (makes : MakesPiece l m) where
+  module _ (bytes out : List ℕ) (start stretch n : ℕ) (stands : StandsFor l bytes start stretch)
+      (is_n : n ≡ start + l.first + makes.count) where
+    made : AreLevelled l.task (band_of l bytes) (start + l.first) makes.count m.fractions [] m.piece
+    made = makes.levels (band_of l bytes) (start + l.first)
+        (held_spectra l bytes start stretch makes.count range stands (ready l bytes start stretch range some next stands)
+        makes.few)
+        stands.place.carried
 
--- some spectra of the stretch are left, or the data have ended
-pub gives_on : (l : Levelling) (count : ℕ) (fractions piece bytes out : List ℕ) → FormatInRange l.task.format
-    → 0 < l.task.plan.spectra → 0 < pending l → MakesSpectra l count fractions piece
-    → (l.has_ended ≡ false → l.first + count < l.last) → Levels l bytes out
-    → Levels (record l { fractions = fractions; piece = piece; first = l.first + count }) bytes (out ++ piece)
-gives_on l count fractions piece bytes out range some next makes left (start, stretch, stands, is_out) =
-    let few = makes.few in (
-      start,
-      stretch,
-      record {
-        place = record {
-          size = stands.place.size;
-          held = stands.place.held;
-          carried = carried_more l count fractions piece range some next makes bytes out start stretch stands is_out
-              (start + (l.first + count)) (omega arith);
-        };
-        order = omega arith;
-        scales = stands.scales;
-        stage = elim stands.stage [
-          | inl waits ↦ let e = waits.last in absurd (omega arith)
-          | inr other ↦ elim other [
-            | inl whole ↦ inr (inl record {
-              goes_on = whole.goes_on;
-              last = whole.last;
-              some = left whole.goes_on;
-              long = whole.long;
-              scaled = whole.scaled;
-              begins = whole.begins;
-            })
-            | inr ends ↦ inr (inr record {
-              ended = ends.ended;
-              last = ends.last;
-              scaled = ends.scaled;
-              here = ends.here;
-            })
-          ]
-        ];
-      },
-      out_more l count fractions piece range some next makes bytes out start stretch stands is_out
-          (start + (l.first + count)) (omega arith),
-    )
+    out_more : out ≡ first_levels l.task (band_of l bytes) (start + l.first)
+        → out ++ m.piece ≡ first_levels l.task (band_of l bytes) n
+    out_more is_out =
+        ap (λ xs. xs ++ m.piece) is_out
+        ∙ ap (λ xs. first_levels l.task (band_of l bytes) (start + l.first) ++ xs) made.written
+        ∙ sym (levels_behind l.task (band_of l bytes) (start + l.first) makes.count)
+        ∙ ap (λ k. first_levels l.task (band_of l bytes) k) (sym is_n)
 
--- a stretch is over: the next one begins
-pub gives_last : (l : Levelling) (count : ℕ) (fractions piece bytes out : List ℕ) → FormatInRange l.task.format
-    → 0 < l.task.plan.spectra → 0 < pending l → MakesSpectra l count fractions piece
-    → l.has_ended ≡ false → l.first + count ≡ l.last → Levels l bytes out
-    → Levels (record l { fractions = fractions; piece = piece; held = cleared l.held; first = 0; last = 0 }) bytes
-    (out ++ piece)
-gives_last l count fractions piece bytes out range some next makes goes_on all (start, stretch, stands, is_out) =
-    elim stands.stage [
-      | inl waits ↦ let e = waits.last in absurd (omega arith)
-      | inr other ↦ elim other [
-        | inr ends ↦ let e : true ≡ false = sym ends.ended ∙ goes_on in absurd (cc)
-        | inl whole ↦
-            let n = l.task.plan.spectra in
-            let sb = spectrum_bytes l.task.format in
-            let size = stands.place.size in
-            let long = whole.long in
-            let last = whole.last in
-            let is_start = whole.begins in
-            let next_start : (start + n) * sb ≡ length bytes = omega arith in (
-              start + n,
-              stretch,
-              record {
-                place = record {
-                  size = omega arith;
-                  held = subst (λ (xs : List ℕ). Holds l.task.format (cleared l.held) xs)
-                      (sym (ap (λ m. drop m bytes) next_start ∙ dropped bytes)) (holds_nothing l.task.format l.held);
-                  carried = carried_more l count fractions piece range some next makes bytes out start stretch stands is_out
-                      (start + n + 0) (omega arith);
-                };
-                order = omega arith;
-                scales = stands.scales;
-                stage = inl record {
-                  goes_on = goes_on;
-                  first = refl;
-                  last = refl;
-                  short = let h = short_of n sb some (some_bytes l.task.format range) in omega arith;
-                  scaled = λ is_scaled. omega arith;
-                  begins = λ not_scaled. let e : true ≡ false = sym whole.scaled ∙ not_scaled in absurd (cc);
-                };
-              },
-              out_more l count fractions piece range some next makes bytes out start stretch stands is_out
-                  (start + n + 0) (omega arith),
-            )
+    carried_more : (i : ℕ) → i < cells l.task.format
+        → slice_index m.fractions i ≡ fine_before l.task (band_of l bytes) i n % unit
+    carried_more i lt = made.carried i lt ∙ ap (λ k. fine_before l.task (band_of l bytes) i k % unit) (sym is_n)
+
+  -- some spectra of the stretch are left, or the data have ended
+  levels_on : (l.has_ended ≡ false → l.first + makes.count < l.last) → (bytes out : List ℕ) → Levels l bytes out
+      → Levels (record l { fractions = m.fractions; piece = m.piece; first = l.first + makes.count }) bytes (out ++ m.piece)
+  levels_on left bytes out (start, stretch, stands, is_out) =
+      let few = makes.few in
+      let n = start + (l.first + makes.count) in (
+        start,
+        stretch,
+        record {
+          place = record {
+            size = stands.place.size;
+            held = stands.place.held;
+            carried = carried_more bytes out start stretch n stands (omega arith);
+          };
+          order = omega arith;
+          scales = stands.scales;
+          stage = elim stands.stage [
+            | inl waits ↦ let e = waits.last in absurd (omega arith)
+            | inr other ↦ elim other [
+              | inl whole ↦ inr (inl record {
+                goes_on = whole.goes_on;
+                last = whole.last;
+                some = left whole.goes_on;
+                long = whole.long;
+                scaled = whole.scaled;
+                begins = whole.begins;
+              })
+              | inr ends ↦ inr (inr record { ended = ends.ended; last = ends.last; scaled = ends.scaled; here = ends.here })
+            ]
+          ];
+        },
+        out_more bytes out start stretch n stands (omega arith) is_out,
+      )
+
+  -- the stretch is over: the next one begins
+  levels_over : l.has_ended ≡ false → l.first + makes.count ≡ l.last → (bytes out : List ℕ) → Levels l bytes out
+      → Levels (record l {
+        fractions = m.fractions;
+        piece = m.piece;
+        held = cleared l.held;
+        first = 0;
+        last = 0;
+      }) bytes (out ++ m.piece)
+  levels_over goes_on all bytes out (start, stretch, stands, is_out) =
+      elim stands.stage [
+        | inl waits ↦ let e = waits.last in absurd (omega arith)
+        | inr other ↦ elim other [
+          | inr ends ↦ let e : true ≡ false = sym ends.ended ∙ goes_on in absurd (cc)
+          | inl whole ↦
+              let n = l.task.plan.spectra in
+              let sb = spectrum_bytes l.task.format in
+              let size = stands.place.size in
+              let long = whole.long in
+              let last = whole.last in
+              let is_start = whole.begins in
+              let next_start : (start + n) * sb ≡ length bytes = omega arith in (
+                start + n,
+                stretch,
+                record {
+                  place = record {
+                    size = omega arith;
+                    held = subst (λ (xs : List ℕ). Holds l.task.format (cleared l.held) xs)
+                        (sym (ap (λ k. drop k bytes) next_start ∙ dropped bytes)) (holds_nothing l.task.format l.held);
+                    carried = carried_more bytes out start stretch (start + n + 0) stands (omega arith);
+                  };
+                  order = omega arith;
+                  scales = stands.scales;
+                  stage = inl record {
+                    goes_on = goes_on;
+                    first = refl;
+                    last = refl;
+                    short = let h = product_some n sb some (some_bytes l.task.format range) in omega arith;
+                    scaled = λ is_scaled. omega arith;
+                    begins = λ not_scaled. let e : true ≡ false = sym whole.scaled ∙ not_scaled in absurd (cc);
+                  };
+                },
+                out_more bytes out start stretch (start + n + 0) stands (omega arith) is_out,
+              )
+        ]
       ]
-    ]
+
+  pub gives_on : (l.has_ended ≡ false → l.first + makes.count < l.last) → Gives l m
+  gives_on left =
+      let few = makes.few in
+      let there = makes.some in
+      subst (λ (x : Levelling). Gives l x) (sym makes.same)
+      record { task = refl; ended = refl; fewer = omega arith; levels = levels_on left }
+
+  pub gives_over : (after : Levelling) → l.has_ended ≡ false → l.first + makes.count ≡ l.last
+      → after ≡ record m { held = cleared m.held; first = 0; last = 0 } → Gives l after
+  gives_over after goes_on all is =
+      subst (λ (x : Levelling). Gives l x)
+      (sym (is ∙ ap (λ (x : Levelling). record x { held = cleared x.held; first = 0; last = 0 }) makes.same))
+      record { task = refl; ended = refl; fewer = omega arith; levels = levels_over goes_on all }

@@ -17,6 +17,5 @@ pub mod Giving
 pub mod Ending
 pub mod Written
 pub mod WrittenRows
-pub mod Stepping
 pub mod Means
 pub mod SpectraMeans

@@ -15,8 +15,8 @@ use Rattle.band_level.specs.Scales.{scale_of, unit}
 use Rattle.band_level.specs.Rows.{HoldScales}
 use Rattle.band_level.specs.Levelled.{Task, is_masked, stretch_values, scale_by, fine_before, first_levels}
 use Rattle.band_level.specs.Spectra.{written_bytes}
-use Rattle.band_level.specs.Levelling.{Levelling, IsAt, StandsFor, Waits, Levels, band_of, pending}
-use Rattle.band_level.specs.Steps.{HeldScales}
+use Rattle.band_level.specs.Levelling.{Levelling, IsAt, StandsFor, Waits, Levels, Takes, band_of, pending}
+use Rattle.band_level.specs.Steps.{HeldScales, Measures, stretch_bytes}
 use Rattle.band_level.proofs.Puts.{cell_more, cell_dropped, held_is}
 use Rattle.band_level.proofs.Agreeing.{Agree, before_agrees, levels_agree, scales_agree}
 use Rattle.band_level.proofs.Ranges.{maps_agree}
@@ -132,40 +132,7 @@ begins_on l start stretch false e waits = (0, let h = waits.begins e in omega ar
 begins : (l : Levelling) (start stretch : ℕ) → Waits l start stretch → (q : ℕ) × (start ≡ q * l.task.plan.spectra)
 begins l start stretch waits = begins_on l start stretch l.is_scaled refl waits
 
--- ---- bytes that leave the stretch short
-
-pub takes_short : (l : Levelling) (next : Holding) (bytes piece out : List ℕ) → FormatInRange l.task.format
-    → 0 < l.task.plan.spectra → l.has_ended ≡ false → pending l ≡ 0 → Puts l.task.format l.held next piece
-    → held_bytes l.task.format next < l.task.plan.spectra * spectrum_bytes l.task.format
-    → Levels l bytes out → Levels (record l { held = next }) (bytes ++ piece) out
-takes_short l next bytes piece out range some goes_on none puts short (start, stretch, stands, is_out) =
-    let waits = is_waiting l bytes start stretch stands goes_on none in
-    let on = begins l start stretch waits in
-    let size = stands.place.size in (
-      start,
-      stretch,
-      record {
-        place = at_more l next bytes piece start on.0 range some on.1 waits.first puts stands.place;
-        order = stands.order;
-        scales = λ is_scaled i lt.
-            let is_start = waits.scaled is_scaled in
-            let agree = prefix_agrees l.task bytes piece (stretch + 1) start range some is_start (omega arith) in
-            stands.scales is_scaled i lt
-            ∙ scales_agree l.task (band_of l bytes) (band_of l (bytes ++ piece)) (stretch + 1) agree stretch i
-            (omega arith) lt;
-        stage = inl record {
-          goes_on = goes_on;
-          first = waits.first;
-          last = waits.last;
-          short = short;
-          scaled = waits.scaled;
-          begins = waits.begins;
-        };
-      },
-      is_out ∙ levels_more l bytes piece start on.0 range some on.1 waits.first stands.place,
-    )
-
--- ---- bytes that fill it
+-- ---- scales
 
 -- the scales of what is held are those of a stretch, where the first spectra that are held are its own
 pub held_scales : (l : Levelling) (bytes : List ℕ) (start stretch count : ℕ) (gains bases lifts : List ℕ)
@@ -186,54 +153,120 @@ held_scales l bytes start stretch count gains bases lifts range place is_start f
     ∙ ap (λ m. map (λ j. cell_value f bytes (stretch * n + j) i) (range_with_len 0 m)) (sym is_count) in
     scales i lt ∙ ap (λ xs. scale_of l.task.plan (is_masked l.task i) (fair_moments xs)) values
 
--- with its scales a whole stretch is to be levelled
-abbrev pub with_stretch : Levelling → Holding → List ℕ → List ℕ → List ℕ → Levelling
-with_stretch l held gains bases lifts = record l {
-  held = held;
+-- the first `last` spectra that are held are to be levelled
+abbrev pub scheduled : Levelling → List ℕ → List ℕ → List ℕ → Bool → ℕ → Bool → Levelling
+scheduled l gains bases lifts is_scaled last has_ended = record l {
   gains = gains;
   bases = bases;
   lifts = lifts;
-  is_scaled = true;
+  is_scaled = is_scaled;
   first = 0;
-  last = l.task.plan.spectra;
+  last = last;
+  has_ended = has_ended;
 }
 
-pub takes_whole : (l : Levelling) (next : Holding) (bytes piece out gains bases lifts : List ℕ)
-    → FormatInRange l.task.format → 0 < l.task.plan.spectra → l.has_ended ≡ false → pending l ≡ 0
-    → Puts l.task.format l.held next piece
-    → held_bytes l.task.format next ≡ l.task.plan.spectra * spectrum_bytes l.task.format
-    → HeldScales l next l.task.plan.spectra gains bases lifts
-    → Levels l bytes out → Levels (with_stretch l next gains bases lifts) (bytes ++ piece) out
-takes_whole l next bytes piece out gains bases lifts range some goes_on none puts long scales
-    (start, stretch, stands, is_out) =
-    let waits = is_waiting l bytes start stretch stands goes_on none in
-    let on = begins l start stretch waits in
-    let place = at_more l next bytes piece start on.0 range some on.1 waits.first puts stands.place in
-    let size = place.size in
-    let sb = spectrum_bytes l.task.format in
-    let all : start + l.task.plan.spectra ≤ length (bytes ++ piece) / sb =
-    le-div (start + l.task.plan.spectra) _ _ (some_bytes l.task.format range) (omega arith) in (
-      start,
-      on.0,
-      record {
-        place = record {
-          size = place.size;
-          held = place.held;
-          carried = λ i lt. place.carried i lt
-              ∙ ap (λ n. fine_before l.task (band_of l (bytes ++ piece)) i (start + n) % unit) waits.first;
-        };
-        order = omega arith;
-        scales = λ is_scaled. held_scales (record l { held = next }) (bytes ++ piece) start on.0
-            l.task.plan.spectra gains bases lifts range place on.1 (omega arith) (omega arith) scales;
-        stage = inr (inl record {
-          goes_on = goes_on;
-          last = refl;
-          some = some;
-          long = long;
-          scaled = refl;
-          begins = on.1;
-        });
-      },
-      is_out ∙ levels_more l bytes piece start on.0 range some on.1 waits.first stands.place
-          ∙ ap (λ n. first_levels l.task (band_of l (bytes ++ piece)) (start + n)) waits.first,
-    )
+pub at_front : (l : Levelling) (gains bases lifts : List ℕ) (is_scaled : Bool) (last : ℕ) (has_ended : Bool)
+    (bytes : List ℕ) (start : ℕ) → l.first ≡ 0 → IsAt l bytes start
+    → IsAt (scheduled l gains bases lifts is_scaled last has_ended) bytes start
+at_front l gains bases lifts is_scaled last has_ended bytes start first place = record {
+  size = place.size;
+  held = place.held;
+  carried = λ i lt. place.carried i lt ∙ ap (λ n. fine_before l.task (band_of l bytes) i (start + n) % unit) first;
+}
+
+-- ---- bytes that are taken
+
+module _ (l : Levelling) (next : Holding) (piece : List ℕ) (range : FormatInRange l.task.format)
+    (some : 0 < l.task.plan.spectra) (goes_on : l.has_ended ≡ false) (none : pending l ≡ 0)
+    (puts : Puts l.task.format l.held next piece) where
+  levels_short : held_bytes l.task.format next < stretch_bytes l.task → (bytes out : List ℕ)
+      → Levels l bytes out → Levels (record l { held = next }) (bytes ++ piece) out
+  levels_short short bytes out (start, stretch, stands, is_out) =
+      let waits = is_waiting l bytes start stretch stands goes_on none in
+      let on = begins l start stretch waits in
+      let size = stands.place.size in (
+        start,
+        stretch,
+        record {
+          place = at_more l next bytes piece start on.0 range some on.1 waits.first puts stands.place;
+          order = stands.order;
+          scales = λ is_scaled i lt.
+              let is_start = waits.scaled is_scaled in
+              let agree = prefix_agrees l.task bytes piece (stretch + 1) start range some is_start (omega arith) in
+              stands.scales is_scaled i lt
+              ∙ scales_agree l.task (band_of l bytes) (band_of l (bytes ++ piece)) (stretch + 1) agree stretch i
+              (omega arith) lt;
+          stage = inl record {
+            goes_on = goes_on;
+            first = waits.first;
+            last = waits.last;
+            short = short;
+            scaled = waits.scaled;
+            begins = waits.begins;
+          };
+        },
+        is_out ∙ levels_more l bytes piece start on.0 range some on.1 waits.first stands.place,
+      )
+
+  levels_whole : (gains bases lifts : List ℕ) → held_bytes l.task.format next ≡ stretch_bytes l.task
+      → HeldScales l next l.task.plan.spectra gains bases lifts → (bytes out : List ℕ) → Levels l bytes out
+      → Levels (scheduled (record l { held = next }) gains bases lifts true l.task.plan.spectra false) (bytes ++ piece) out
+  levels_whole gains bases lifts long scales bytes out (start, stretch, stands, is_out) =
+      let n = l.task.plan.spectra in
+      let waits = is_waiting l bytes start stretch stands goes_on none in
+      let on = begins l start stretch waits in
+      let place = at_more l next bytes piece start on.0 range some on.1 waits.first puts stands.place in
+      let size = place.size in
+      let all : start + n ≤ length (bytes ++ piece) / spectrum_bytes l.task.format =
+      le-div (start + n) _ _ (some_bytes l.task.format range) (omega arith) in (
+        start,
+        on.0,
+        record {
+          place = at_front (record l { held = next }) gains bases lifts true n false (bytes ++ piece) start waits.first place;
+          order = omega arith;
+          scales = λ is_scaled. held_scales (record l { held = next }) (bytes ++ piece) start on.0 n gains bases lifts
+              range place on.1 (omega arith) (omega arith) scales;
+          stage = inr (inl record {
+            goes_on = refl;
+            last = refl;
+            some = some;
+            long = long;
+            scaled = refl;
+            begins = on.1;
+          });
+        },
+        is_out ∙ levels_more l bytes piece start on.0 range some on.1 waits.first stands.place
+            ∙ ap (λ k. first_levels l.task (band_of l (bytes ++ piece)) (start + k)) waits.first,
+      )
+
+-- they leave the stretch short
+pub takes_short : (l m : Levelling) (piece : List ℕ) → FormatInRange l.task.format → 0 < l.task.plan.spectra
+    → l.has_ended ≡ false → pending l ≡ 0 → m ≡ record l { held = m.held } → Puts l.task.format l.held m.held piece
+    → held_bytes m.task.format m.held < stretch_bytes m.task → Takes l m piece
+takes_short l m piece range some goes_on none is puts short =
+    let few = subst (λ (x : Levelling). held_bytes x.task.format x.held < stretch_bytes x.task) is short in
+    subst (λ (x : Levelling). Takes l x piece) (sym is)
+    record { task = refl; ended = refl; levels = levels_short l m.held piece range some goes_on none puts few }
+
+-- they fill it, and its scales are made
+pub takes_whole : (l mid scaled m : Levelling) (piece : List ℕ) (n : ℕ) → FormatInRange l.task.format
+    → 0 < l.task.plan.spectra → l.has_ended ≡ false → pending l ≡ 0 → mid ≡ record l { held = mid.held }
+    → Puts l.task.format l.held mid.held piece → held_bytes mid.task.format mid.held ≡ stretch_bytes mid.task
+    → n ≡ mid.task.plan.spectra → Measures mid scaled n → m ≡ record scaled { first = 0; last = n; has_ended = false }
+    → Takes l m piece
+takes_whole l mid scaled m piece n range some goes_on none is puts long is_n measures scheduled_is =
+    let all = subst (λ (x : Levelling). held_bytes x.task.format x.held ≡ stretch_bytes x.task) is long in
+    let made = subst (λ (x : Levelling). Measures x scaled x.task.plan.spectra) is
+    (subst (λ (k : ℕ). Measures mid scaled k) is_n measures) in
+    let it : m ≡ scheduled (record l { held = mid.held }) scaled.gains scaled.bases scaled.lifts true
+    l.task.plan.spectra false =
+    scheduled_is ∙ ap (λ (x : Levelling). record x { first = 0; last = n; has_ended = false }) made.same
+    ∙ ap (λ k. scheduled (record l { held = mid.held }) scaled.gains scaled.bases scaled.lifts true k false)
+    (is_n ∙ ap (λ (x : Levelling). x.task.plan.spectra) is) in
+    subst (λ (x : Levelling). Takes l x piece) (sym it)
+    record {
+      task = refl;
+      ended = sym goes_on;
+      levels = levels_whole l mid.held piece range some goes_on none puts scaled.gains scaled.bases scaled.lifts all
+          made.scales;
+    }
