@@ -23,10 +23,6 @@ pub total_none : (is_masked : ℕ → Bool) (values : List ℕ) → kept_sum is_
 unfolding kept_sum
 total_none is_masked values = refl
 
-pub one_most : (b : Bool) → cond b 0 1 ≤ 1
-one_most true = omega arith
-one_most false = omega arith
-
 -- a cell that isn't masked is counted
 kept_one : (is_masked : ℕ → Bool) (i n : ℕ) → i ≡ n → is_masked i ≡ false
     → kept_before is_masked (n + 1) ≡ kept_before is_masked n + 1

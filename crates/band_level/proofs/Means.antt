@@ -106,12 +106,6 @@ in_stretch k b stretch t some fits low high =
       | inr long ↦ own_stretch k b (stretch + 1) t some (omega arith) (omega arith) ∙ own
     ]
 
--- no spectra
-of_none : (levels : ℕ → ℕ) (first count mean : ℕ) → count ≡ 0
-    → distance (1000 * sum_by levels (range_with_len first count)) (count * mean) < 2000
-of_none levels first zero mean none = omega arith
-of_none levels first (suc n) mean none = absurd (omega arith)
-
 -- What n spectra from `a` on sum up to, of which each has this scale and nothing is cut: the levels with their lifts are
 -- the whole values, and what they have in units is n bases and what the gain makes of their values.
 sums_up : (k : Task) (b : Band) (i a : ℕ) (s : Scale) (n : ℕ)
@@ -181,5 +175,5 @@ of_some k b stretch i range some fits all uncut =
 pub means : MeansAreKept
 means k b stretch i range fits all uncut = elim (cases_lt 0 (stretch_spectra k b)) [
   | inl some ↦ of_some k b stretch i range some fits all uncut
-  | inr none ↦ of_none (level k b i) (stretch * k.plan.spectra) (stretch_spectra k b) k.plan.mean (omega arith)
+  | inr none ↦ let nothing : stretch_spectra k b ≡ 0 = omega arith in rw nothing (omega arith)
 ]

@@ -1,12 +1,10 @@
 -- What a leveller stands for, from call to call.
 use Rattle.std.proofs.Common.{◌≡◌, ℕ, refl, ◌+◌, ◌*◌, ◌/◌, ◌%◌, ◌<◌, ◌≤◌, min, inl, inr, Bool, true, false, List, ◌++◌, length, drop, map, ◌∙◌, sym, ap, subst, arith, length-append}
 use Rattle.std.specs.List.{range_with_len}
-use Rattle.std.proofs.Math.Nat.{mul-le-mul, mul-le-mul_right}
+use Rattle.std.proofs.Math.Nat.{mul-le-mul_right}
 use Rattle.std.proofs.lemmas.Nat.{le-div}
 use Rattle.std.proofs.lemmas.List.{drop-append-le}
-use Rattle.band_level.specs.declared.format.Format.{Format}
-use Rattle.band_level.specs.declared.plan.Plan.{Plan}
-use Rattle.band_level.specs.Ranges.{FormatInRange, PlanInRange}
+use Rattle.band_level.specs.Ranges.{FormatInRange}
 use Rattle.band_level.specs.Values.{band, cells, spectrum_bytes, cell_value}
 use Rattle.band_level.specs.Holding.{Holding, Holds, Puts, held_bytes, held_value}
 use Rattle.band_level.specs.Moments.{fair_moments}
@@ -14,42 +12,12 @@ use Rattle.band_level.specs.Columns.{column}
 use Rattle.band_level.specs.Scales.{scale_of, unit}
 use Rattle.band_level.specs.Rows.{HoldScales}
 use Rattle.band_level.specs.Levelled.{Task, is_masked, stretch_values, scale_by, fine_before, first_levels}
-use Rattle.band_level.specs.Spectra.{written_bytes}
 use Rattle.band_level.specs.Levelling.{Levelling, IsAt, StandsFor, Waits, Levels, Takes, band_of, pending}
 use Rattle.band_level.specs.Steps.{HeldScales, Measures, stretch_bytes}
+use Rattle.band_level.proofs.Values.{some_bytes}
 use Rattle.band_level.proofs.Puts.{cell_more, cell_dropped, held_is}
 use Rattle.band_level.proofs.Agreeing.{Agree, before_agrees, levels_agree, scales_agree}
 use Rattle.band_level.proofs.Ranges.{maps_agree}
-
--- ---- sizes
-
-pub product_some : (a b : ℕ) → 0 < a → 0 < b → 0 < a * b
-product_some a b x y = let h : 1 * 1 ≤ a * b = mul-le-mul x y in omega (arith, h)
-
-pub some_bytes : (f : Format) → FormatInRange f → 0 < spectrum_bytes f
-some_bytes f range =
-    let width : 0 < f.bits / 8 = elim range.bits [
-      | inl e ↦ omega arith
-      | inr e ↦ omega arith
-    ] in
-    let pols : 0 < f.polarisations = elim range.polarisations [
-      | inl e ↦ omega arith
-      | inr e ↦ omega arith
-    ] in
-    product_some f.average (cells f * (f.bits / 8)) range.some_average
-    (product_some (cells f) (f.bits / 8) (product_some f.channels f.polarisations range.some_channels pols) width)
-
-pub some_written : (f : Format) (p : Plan) → FormatInRange f → PlanInRange p → 0 < written_bytes f p
-some_written f p range plan =
-    let width : 0 < p.bits / 8 = elim plan.most [
-      | inl e ↦ let bits = e.0 in omega arith
-      | inr e ↦ let bits = e.0 in omega arith
-    ] in
-    let pols : 0 < f.polarisations = elim range.polarisations [
-      | inl e ↦ omega arith
-      | inr e ↦ omega arith
-    ] in
-    product_some (cells f) (p.bits / 8) (product_some f.channels f.polarisations range.some_channels pols) width
 
 -- ---- more bytes
 

@@ -15,17 +15,8 @@ long_written new old long n e f = ap length (written new old long e) ∙ e ∙ f
 
 -- ---- lists of zeroes
 
-abbrev zero_value : ℕ
-zero_value = 0
-
-abbrev zeroes : ℕ → List ℕ
-zeroes n = replicate n zero_value
-
-zeroes_long : (n : ℕ) → length (zeroes n) ≡ n
-zeroes_long n = length-replicate n zero_value
-
 pub zero_long : (xs : List ℕ) (n : ℕ) → xs ≡ replicate n 0 → length xs ≡ n
-zero_long xs n is = ap length is ∙ zeroes_long n
+zero_long xs n is = let zero_value : ℕ = 0 in ap length is ∙ length-replicate n zero_value
 
 -- as many pieces as fit into a size, but at least one
 pub piece_most : (size wide : ℕ) → max (size / wide) 1 * wide ≤ size + wide

@@ -3,29 +3,20 @@ ghost use Rattle.std.specs.Prelude.{◌≡◌, ℕ, ◌+◌, ◌*◌, ◌<◌, �
 ghost use Rattle.band_level.specs.Values.{cells};
 ghost use Rattle.band_level.specs.Holding.{HasSpectra, held_value};
 ghost use Rattle.band_level.specs.Ranges.{FormatInRange};
-ghost use Rattle.band_level.specs.Rows.{HasBounds, HasMoments, MomentsLong};
+ghost use Rattle.band_level.specs.Rows.{HasBounds, HasMoments, AreLong};
 ghost use Rattle.band_level.specs.Columns.{AddsFar, AreBelow, AreSmall, AreTotals, HoldsFar, LosesFar, far_part};
 
 use crate::cells::{CellBounds, CellMoments};
 use crate::format::Format;
 use crate::held::Held;
 
-// A value beyond the bounds; else 0.
+// `y` for a value beyond the bounds; else 0.
 #[inline(always)]
-fn far(low: u32, high: u32, x: u32) -> u32
-    ensures far { result ≡ far_part low high x x }
-    ensures most { result ≤ x }
+fn far(low: u32, high: u32, x: u32, y: u32) -> u32
+    ensures far { result ≡ far_part low high x y }
+    ensures most { result ≤ y }
 {
-    if low <= x && x <= high { 0 } else { x }
-}
-
-// 1 for a value beyond the bounds; else 0.
-#[inline(always)]
-fn one(low: u32, high: u32, x: u32) -> u32
-    ensures one { result ≡ far_part low high x 1 }
-    ensures most { result ≤ 1 }
-{
-    if low <= x && x <= high { 0 } else { 1 }
+    if low <= x && x <= high { 0 } else { y }
 }
 
 // Whether a value of a row lies beyond the bounds of its cell.
@@ -39,7 +30,7 @@ fn any_far(row: &[u32], lows: &[u32], highs: &[u32]) -> bool
 {
     let mut count = 0;
     for i in 0..row.len() {
-        count += one(lows[i], highs[i], row[i]);
+        count += far(lows[i], highs[i], row[i], 1);
     }
     count != 0
 }
@@ -59,8 +50,8 @@ fn keep_far(row: &mut [u32], lows: &[u32], highs: &[u32], counts: &mut [u32])
     ensures fewer { (i : ℕ) → slice_index row.new i ≤ slice_index row.old i }
 {
     for i in 0..row.len() {
-        counts[i] += one(lows[i], highs[i], row[i]);
-        row[i] = far(lows[i], highs[i], row[i]);
+        counts[i] += far(lows[i], highs[i], row[i], 1);
+        row[i] = far(lows[i], highs[i], row[i], row[i]);
     }
 }
 
@@ -112,7 +103,7 @@ fn add_far(
     requires lows { length lows.now ≡ length row.old }
     requires highs { length highs.now ≡ length row.old }
     requires few { length row.old ≤ 8192 }
-    requires sums { MomentsLong (length row.old) counts.old totals.old squares.old }
+    requires sums { AreLong (length row.old) counts.old totals.old squares.old }
     requires values { (i : ℕ) → slice_index row.old i ≤ 4194303 }
     requires small { AreSmall 1048575 counts.old totals.old squares.old }
     ensures adds { AddsFar lows.now highs.now row.old counts.old totals.old squares.old

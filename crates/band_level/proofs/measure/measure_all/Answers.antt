@@ -2,7 +2,7 @@ use Rattle.std.proofs.Common.{◌≡◌, ℕ, ◌<◌, slice_index, replicate, �
 use Rattle.std.proofs.lemmas.List.{get_or-replicate}
 use Rattle.band_level.specs.Values.{cells}
 use Rattle.band_level.specs.Holding.{held_value}
-use Rattle.band_level.proofs.Measured.{all_moments, all_small}
+use Rattle.band_level.proofs.Columns.{all_moments, all_small}
 use Rattle.band_level.proofs.Written.{written}
 use Rattle.band_level.proofs.measure.measure_all.Goals as goal
 

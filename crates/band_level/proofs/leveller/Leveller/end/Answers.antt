@@ -1,6 +1,6 @@
 use Rattle.std.proofs.Common.{◌≡◌, false, ◌∙◌, sym, ap, arith}
 use Rattle.band_level.specs.Levelling.{Levelling}
-use Rattle.band_level.proofs.Ending.{ends_scaled, ends_made}
+use Rattle.band_level.proofs.Giving.{ends_scaled, ends_made}
 use Rattle.band_level.proofs.leveller.Leveller.end.Goals as goal
 use Rattle.band_level.proofs.leveller.Leveller.end.Goals.{then-count-eq0-via-then-count-eq0, then-count-eq0-via-else-count-eq0+then-self-2}
 

@@ -3,7 +3,7 @@ use Rattle.std.proofs.Math.Nat.{mul-le-mul_right, div-mul-le_self}
 use Rattle.std.proofs.lemmas.Nat.{le-div}
 use Rattle.band_level.specs.Levelling.{Levelling}
 use Rattle.band_level.proofs.Puts.{has_fewer}
-use Rattle.band_level.proofs.Standing.{some_written}
+use Rattle.band_level.proofs.Values.{some_written}
 use Rattle.band_level.proofs.Written.{written, long_written}
 use Rattle.band_level.proofs.leveller.Leveller.make_piece.Goals as goal
 

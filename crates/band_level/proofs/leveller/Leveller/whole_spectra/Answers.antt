@@ -3,7 +3,7 @@ use Rattle.std.proofs.Math.Nat.{div-mul-le_self}
 use Rattle.band_level.specs.Values.{spectrum_bytes}
 use Rattle.band_level.specs.Holding.{held_bytes}
 use Rattle.band_level.proofs.Puts.{as_few}
-use Rattle.band_level.proofs.Standing.{some_bytes}
+use Rattle.band_level.proofs.Values.{some_bytes}
 use Rattle.band_level.proofs.leveller.Leveller.whole_spectra.Goals as goal
 
 pub returns : goal.returns
