@@ -1,6 +1,6 @@
 -- Bands that have their first whole stretches in common.
-use Rattle.std.proofs.Common.{◌≡◌, ℕ, zero, suc, ◌+◌, ◌-◌, ◌*◌, ◌/◌, ◌<◌, ◌≤◌, ◌++◌, min, List, ◌∷◌, map, refl, ◌∙◌, sym, ap, arith}
-use Rattle.std.specs.List.{range_with_len, flat_map}
+use Rattle.std.proofs.Common.{◌≡◌, ℕ, ◌+◌, ◌-◌, ◌*◌, ◌/◌, ◌<◌, ◌≤◌, min, ◌∙◌, sym, ap, arith}
+use Rattle.std.specs.List.{flat_map}
 use Rattle.std.proofs.Math.Nat.{mul-le-mul_right}
 use Rattle.std.proofs.lemmas.Nat.{div_below, le-div}
 use Rattle.band_level.specs.Values.{Band, cells}
@@ -33,10 +33,8 @@ module _ (k : Task) (b c : Band) (stretches : ℕ) (agree : Agree k b c stretche
       let all : min n b.spectra ≡ n = let e = agree.enough in omega arith in
       let all_too : min n c.spectra ≡ n = let e = agree.others in omega arith in
       let values : stretch_values k b s i ≡ stretch_values k c s i =
-      ap (λ m. map (λ j. b.value (s * n + j) i) (range_with_len 0 m)) all
-      ∙ maps_agree 0 (λ j. b.value (s * n + j) i) (λ j. c.value (s * n + j) i) n
-      (λ j lt. agree.values (s * n + j) i (omega arith) here)
-      ∙ ap (λ m. map (λ j. c.value (s * n + j) i) (range_with_len 0 m)) (sym all_too) in
+      rw (all, all_too) (maps_agree 0 (λ j. b.value (s * n + j) i) (λ j. c.value (s * n + j) i) n
+      (λ j lt. agree.values (s * n + j) i (omega arith) here)) in
       ap (λ xs. scale_of k.plan (is_masked k i) (fair_moments xs)) values
 
   at_agrees : (t i : ℕ) → t < stretches * k.plan.spectra → i < cells k.format → scale_at k b t i ≡ scale_at k c t i

@@ -1,9 +1,9 @@
 -- The sums of one spectrum more; and the scale of a cell, from sums of all its values and then of those near their mean.
-use Rattle.std.proofs.Common.{◌≡◌, ℕ, zero, suc, ◌+◌, ◌*◌, ◌<◌, ◌≤◌, inl, inr, Bool, true, false, cond, List, length, slice_index, sym, ◌∙◌, ap, refl, arith, ◌-◌, eqb, map, subst}
+use Rattle.std.proofs.Common.{◌≡◌, ℕ, zero, suc, ◌+◌, ◌*◌, ◌<◌, ◌≤◌, inl, inr, ◌⊎◌, Bool, true, false, cond, List, length, slice_index, sym, ◌∙◌, ap, refl, arith, ◌-◌, eqb, map, subst}
 use Rattle.std.proofs.Math.Nat.{mul-le-mul}
 use Rattle.std.proofs.lemmas.Bool.{cases_lt}
 use Rattle.std.proofs.lemmas.List.{get_or_past}
-use Rattle.band_level.specs.Columns.{AddsFar, AreBelow, AreFarSums, AreSmall, AreTotals, far_part, is_far, AreNear, LeavesOut, column, near_column, far_column, is_between, moments_held, MomentsWithin}
+use Rattle.band_level.specs.Columns.{AddsFar, AreBelow, AreFarSums, AreSmall, AreTotals, far_part, is_far, AreNear, LeavesOut, column, near_column, is_between, moments_held, MomentsWithin}
 use Rattle.band_level.proofs.Ranges.{filtered_sum_more, filtered_length_more, mapped_sum_more, all_of, few_left, filters_agree}
 use Rattle.std.specs.List.{All, range_with_len, sum_by, filter}
 use Rattle.std.proofs.lemmas.Bool.Decides.{nat_tests}
@@ -69,6 +69,15 @@ part_one low high x = elim (is_far low high x) as (λ b. cond b 1 0 ≤ 1) [
   | false ↦ omega arith
 ]
 
+-- no moments lie beyond all cells
+none_past : (n cells i : ℕ) (counts totals squares : List ℕ) → length counts ≡ cells → length totals ≡ cells
+    → length squares ≡ cells → cells ≤ i → MomentsWithin n (moments_held counts totals squares i)
+none_past n cells i counts totals squares lc lt ls past = record {
+  count = omega (arith, get_or_past counts i 0 (omega arith));
+  total = omega (arith, get_or_past totals i 0 (omega arith));
+  squares = omega (arith, get_or_past squares i 0 (omega arith));
+}
+
 pub small_more : (n : ℕ) (lows highs row counts totals squares counts' totals' squares' : List ℕ)
     → AreSmall n counts totals squares
     → AddsFar lows highs row counts totals squares counts' totals' squares'
@@ -94,11 +103,7 @@ small_more n lows highs row counts totals squares counts' totals' squares' small
               part_most low high x (x * x) 17592177655809 (omega (arith, e)),
             );
           }
-      | inr h ↦ record {
-        count = omega (arith, get_or_past counts' i 0 (omega arith));
-        total = omega (arith, get_or_past totals' i 0 (omega arith));
-        squares = omega (arith, get_or_past squares' i 0 (omega arith));
-      }
+      | inr h ↦ none_past (n + 1) (length row) i counts' totals' squares' lc lt ls h
     ]
 
 -- a row of which none lies beyond the bounds
@@ -178,15 +183,6 @@ pub all_moments : (value : ℕ → ℕ → ℕ) (cells n : ℕ) (counts totals s
 all_moments value cells n counts totals squares counted sums i here =
     rw (counted i here, sums.total i here, sums.square i here, length-map-range_with_len (λ t. value t i) 0 n) refl
 
--- no moments lie beyond all cells
-none_past : (n cells i : ℕ) (counts totals squares : List ℕ) → length counts ≡ cells → length totals ≡ cells
-    → length squares ≡ cells → cells ≤ i → MomentsWithin n (moments_held counts totals squares i)
-none_past n cells i counts totals squares lc lt ls past = record {
-  count = omega (arith, get_or_past counts i 0 (omega arith));
-  total = omega (arith, get_or_past totals i 0 (omega arith));
-  squares = omega (arith, get_or_past squares i 0 (omega arith));
-}
-
 pub all_small : (cells n : ℕ) (counts totals squares : List ℕ) → n ≤ 1048576
     → length counts ≡ cells → length totals ≡ cells → length squares ≡ cells
     → ((i : ℕ) → i < cells → slice_index counts i ≡ n) → AreBelow n totals squares
@@ -248,21 +244,14 @@ near_small value cells n lows highs counts totals squares few lc lt ls small nea
   | inr h ↦ none_past 1048576 cells i counts totals squares lc lt ls h
 ]
 
--- the moments of the values near the mean, where some are there, or else of all
-fair_is : (p : Plan) (b : Bool) (xs : List ℕ) (scale first : Scale) (m : Moments)
-    → m ≡ moments (near_values xs)
-    → (0 < m.count → scale ≡ scale_of p b m) → (m.count ≡ 0 → scale ≡ first)
-    → first ≡ scale_of p b (moments xs) → scale ≡ scale_of p b (fair_moments xs)
-fair_is p b xs scale first m is some none first_is = elim (cases_lt 0 (length (near_values xs))) [
+-- the fair moments are those of the values near the mean, where some are there, or else of all
+pub fair_where : (xs : List ℕ) → ((0 < length (near_values xs)) × (fair_moments xs ≡ moments (near_values xs)))
+    ⊎ ((length (near_values xs) ≡ 0) × (fair_moments xs ≡ moments xs))
+fair_where xs = elim (cases_lt 0 (length (near_values xs))) [
   | inl there ↦
-      let count : m.count ≡ length (near_values xs) = ap (λ (w : Moments). w.count) is in
-      let test : eqb (length (near_values xs)) 0 ≡ false = grind (arith, nat_tests) in
-      some (omega arith) ∙ ap (scale_of p b) (is ∙ ap (λ v. cond v (moments xs) (moments (near_values xs))) (sym test))
+      let test : eqb (length (near_values xs)) 0 ≡ false = grind (arith, nat_tests) in inl (there, rw test refl)
   | inr nowhere ↦
-      let count : m.count ≡ length (near_values xs) = ap (λ (w : Moments). w.count) is in
-      let test : eqb (length (near_values xs)) 0 ≡ true = grind (arith, nat_tests) in
-      none (omega arith) ∙ first_is
-      ∙ ap (scale_of p b) (ap (λ v. cond v (moments xs) (moments (near_values xs))) (sym test))
+      let test : eqb (length (near_values xs)) 0 ≡ true = grind (arith, nat_tests) in inr (omega arith, rw test refl)
 ]
 
 pub fair_scales : (p : Plan) (mark : ℕ → Bool) (value : ℕ → ℕ → ℕ) (cells n : ℕ)
@@ -285,7 +274,11 @@ fair_scales p mark value cells n counts totals squares lows highs counts' totals
     let near_ones : near_column value lows highs n i ≡ near_values xs =
     filters_agree between near_mean xs (all_of (λ x. between x ≡ near_mean x) (λ t. value t i) n
     (λ t lt. near.near i (value t i) here (omega (arith, small t i lt here)) ∙ ap (λ m. is_near m (value t i)) (all i here))) in
-    fair_is p (mark i) xs _ (scale' i) (moments_held counts' totals' squares' i)
-    (all' i here ∙ ap moments near_ones)
-    (set'.set i here) (set'.kept i)
-    (set.set i here (some i here) ∙ ap (scale_of p (mark i)) (all i here))
+    let is : moments_held counts' totals' squares' i ≡ moments (near_values xs) = all' i here ∙ ap moments near_ones in
+    let count = ap (λ (m : Moments). m.count) is in
+    elim (fair_where xs) [
+      | inl t ↦ let there = t.0 in set'.set i here (omega arith) ∙ ap (scale_of p (mark i)) (is ∙ sym t.1)
+      | inr t ↦
+          let none = t.0 in
+          set'.kept i (omega arith) ∙ set.set i here (some i here) ∙ ap (scale_of p (mark i)) (all i here ∙ sym t.1)
+    ]

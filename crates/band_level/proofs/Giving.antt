@@ -11,7 +11,7 @@ use Rattle.band_level.specs.Holding.{Holds, cleared, held_bytes, Holding}
 use Rattle.band_level.specs.Scales.{unit}
 use Rattle.band_level.specs.Levelled.{Task, scale_by, stretch_for, fine_before, first_levels, spectrum_levels}
 use Rattle.band_level.specs.Spectra.{AreHeld, AreLevelled}
-use Rattle.band_level.specs.Levelling.{Levelling, IsAt, StandsFor, IsWhole, Ends, Levels, Gives, band_of, pending, Waits, EndsAs}
+use Rattle.band_level.specs.Levelling.{Levelling, IsAt, StandsFor, Levels, Gives, band_of, pending, Waits, EndsAs}
 use Rattle.band_level.specs.Steps.{MakesPiece, HeldScales, Measures}
 use Rattle.band_level.proofs.Agreeing.{own_stretch}
 use Rattle.band_level.proofs.Puts.{holds_nothing}
@@ -55,50 +55,34 @@ quotient t q n low high =
     let e : t ≡ q * n + (t - q * n) = omega arith in
     ap (λ m. m / n) e ∙ div-mul-add q n (t - q * n) (omega arith)
 
-whole_is_ready : (l : Levelling) (bytes : List ℕ) (start stretch : ℕ) → FormatInRange l.task.format
-    → 0 < l.task.plan.spectra → IsAt l bytes start → IsWhole l start stretch → IsReady l bytes start stretch
-whole_is_ready l bytes start stretch range some place whole =
-    let n = l.task.plan.spectra in
-    let sb = spectrum_bytes l.task.format in
-    let size = place.size in
-    let long = whole.long in
-    let is_start = whole.begins in
-    let all : (stretch + 1) * n ≤ length bytes / sb =
-    le-div ((stretch + 1) * n) _ _ (some_bytes l.task.format range)
-    (let e : (stretch + 1) * n * sb ≡ start * sb + n * sb =
-    ap (λ m. m * sb) (let h : (stretch + 1) * n ≡ start + n = omega arith in h) ∙ omega arith in
-    omega arith) in
-    record {
-      inside = let e : l.last * sb ≡ n * sb = ap (λ m. m * sb) whole.last in omega arith;
-      scaled = whole.scaled;
-      here = λ t low high.
-          let last = whole.last in
-          own_stretch l.task (band_of l bytes) (stretch + 1) t some all (omega arith)
-          ∙ quotient t stretch n (omega arith) (omega arith);
-    }
-
-ends_is_ready : (l : Levelling) (bytes : List ℕ) (start stretch : ℕ) → FormatInRange l.task.format
-    → 0 < l.last → IsAt l bytes start → Ends l bytes start stretch → IsReady l bytes start stretch
-ends_is_ready l bytes start stretch range some place ends =
-    let sb = spectrum_bytes l.task.format in
-    let size = place.size in
-    let fits : length bytes / sb * sb ≤ length bytes = div-mul-le_self (length bytes) sb in
-    let e : (start + l.last) * sb ≡ length bytes / sb * sb = ap (λ m. m * sb) ends.last in
-    record {
-      inside = omega arith;
-      scaled = ends.scaled some;
-      here = ends.here;
-    }
-
 ready : (l : Levelling) (bytes : List ℕ) (start stretch : ℕ) → FormatInRange l.task.format
     → 0 < l.task.plan.spectra → 0 < pending l → StandsFor l bytes start stretch → IsReady l bytes start stretch
-ready l bytes start stretch range some next stands = elim stands.stage [
-  | inl waits ↦ let e = waits.last in absurd (omega arith)
-  | inr other ↦ elim other [
-    | inl whole ↦ whole_is_ready l bytes start stretch range some stands.place whole
-    | inr ends ↦ ends_is_ready l bytes start stretch range (omega arith) stands.place ends
-  ]
-]
+ready l bytes start stretch range some next stands =
+    let n = l.task.plan.spectra in
+    let sb = spectrum_bytes l.task.format in
+    let size = stands.place.size in
+    elim stands.stage [
+      | inl waits ↦ let e = waits.last in absurd (omega arith)
+      | inr other ↦ elim other [
+        | inl whole ↦
+            let long = whole.long in
+            let is_start = whole.begins in
+            let last = whole.last in
+            let all : (stretch + 1) * n ≤ length bytes / sb =
+            omega (arith, le-div (start + n) (length bytes) sb (some_bytes l.task.format range) (omega arith)) in
+            record {
+              inside = let e : l.last * sb ≡ n * sb = ap (λ m. m * sb) last in omega arith;
+              scaled = whole.scaled;
+              here = λ t low high.
+                  own_stretch l.task (band_of l bytes) (stretch + 1) t some all (omega arith)
+                  ∙ quotient t stretch n (omega arith) (omega arith);
+            }
+        | inr ends ↦
+            let fits : length bytes / sb * sb ≤ length bytes = div-mul-le_self (length bytes) sb in
+            let e : (start + l.last) * sb ≡ length bytes / sb * sb = ap (λ m. m * sb) ends.last in
+            record { inside = omega arith; scaled = ends.scaled (omega arith); here = ends.here }
+      ]
+    ]
 
 held_spectra : (l : Levelling) (bytes : List ℕ) (start stretch count : ℕ) → FormatInRange l.task.format
     → StandsFor l bytes start stretch → IsReady l bytes start stretch → l.first + count ≤ l.last

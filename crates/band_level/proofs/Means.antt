@@ -1,13 +1,12 @@
 -- The law on means.
-use Rattle.std.proofs.Common.{◌≡◌, ℕ, zero, suc, refl, ◌+◌, ◌-◌, ◌*◌, ◌/◌, ◌<◌, ◌≤◌, inl, inr, Bool, true, false, cond, eqb, List, [], ◌∷◌, length, map, ◌∙◌, sym, ap, subst, arith}
+use Rattle.std.proofs.Common.{◌≡◌, ℕ, zero, suc, refl, ◌+◌, ◌-◌, ◌*◌, ◌/◌, ◌<◌, ◌≤◌, inl, inr, Bool, true, false, cond, List, [], ◌∷◌, length, map, ◌∙◌, sym, ap, subst, arith}
 use Rattle.std.specs.List.{range_with_len, sum_by, filter}
 use Rattle.std.proofs.Math.Nat.{mul-div-le, mul-le-mul_right}
 use Rattle.std.proofs.lemmas.Bool.{cases_lt}
-use Rattle.std.proofs.lemmas.Bool.Decides.{nat_tests}
 use Rattle.std.proofs.lemmas.Nat.{div-add-mod', mod_below}
 use Rattle.std.proofs.lemmas.List.FromFn.{length-map-range_with_len}
 use Rattle.band_level.specs.Values.{Band}
-use Rattle.band_level.specs.Moments.{Moments, moments, near_values, fair_moments, is_near, distance}
+use Rattle.band_level.specs.Moments.{Moments, moments, fair_moments, is_near, distance}
 use Rattle.band_level.specs.Scales.{Scale, scale_of, unit}
 use Rattle.band_level.specs.Ranges.{TaskInRange}
 use Rattle.band_level.specs.Levelled.{Task, is_masked, stretch_spectra, stretch_values, scale_by, stretch_for, scale_at, fine, fine_before, whole, level}
@@ -15,6 +14,7 @@ use Rattle.band_level.specs.Laws.{IsUncut, MeansAreKept}
 use Rattle.band_level.proofs.Ranges.{few_left, mapped_sum_more, sum_range_more_from}
 use Rattle.band_level.proofs.SpectraLevelled.{fine_is, fine_more}
 use Rattle.band_level.proofs.Agreeing.{own_stretch}
+use Rattle.band_level.proofs.Columns.{fair_where}
 use Rattle.band_level.proofs.Giving.{quotient}
 
 -- ---- lists of which nothing is left out
@@ -33,17 +33,10 @@ kept_all p [] same = refl
 kept_all p (x ∷ xs) same = kept_on p x xs (filter p xs) (p x) refl same (kept_all p xs)
 
 -- moments that count all values are those of all values
-fair_of_all : (xs : List ℕ) → 0 < length xs → (fair_moments xs).count ≡ length xs → fair_moments xs ≡ moments xs
-fair_of_all xs some all = elim (cases_lt 0 (length (near_values xs))) [
-  | inl there ↦
-      let test : eqb (length (near_values xs)) 0 ≡ false = grind (arith, nat_tests) in
-      let is : fair_moments xs ≡ moments (near_values xs) =
-      ap (λ b. cond b (moments xs) (moments (near_values xs))) test in
-      let long : length (near_values xs) ≡ length xs = sym (ap (λ (m : Moments). m.count) is) ∙ all in
-      is ∙ ap moments (kept_all (is_near (moments xs)) xs long)
-  | inr nowhere ↦
-      let test : eqb (length (near_values xs)) 0 ≡ true = grind (arith, nat_tests) in
-      ap (λ b. cond b (moments xs) (moments (near_values xs))) test
+fair_of_all : (xs : List ℕ) → (fair_moments xs).count ≡ length xs → fair_moments xs ≡ moments xs
+fair_of_all xs all = elim (fair_where xs) [
+  | inl t ↦ t.1 ∙ ap moments (kept_all (is_near (moments xs)) xs (sym (ap (λ (m : Moments). m.count) t.1) ∙ all))
+  | inr t ↦ t.1
 ]
 
 -- ---- the sum of a stretch, in numbers
@@ -125,7 +118,7 @@ sums_up k b i a s (suc n) each =
     let g : suc n ≡ n + 1 = omega arith in
     let next : fine_before k b i (a + suc n) ≡ fine_before k b i (a + n) + fine k b i (a + n) =
     ap (fine_before k b i) e ∙ fine_more k b i (a + n) in
-    let here = fine_is k b i (a + n) s.gain s.base s.lift (b.value (a + n) i) (sym one.0) refl in
+    let here = fine_is k b i (a + n) s (b.value (a + n) i) (sym one.0) refl in
     let lift : (scale_at k b (a + n) i).lift ≡ s.lift = ap (λ (z : Scale). z.lift) one.0 in
     let whole_is : whole k b i (a + n) ≡ fine_before k b i (a + suc n) / unit - fine_before k b i (a + n) / unit =
     ap (λ t. fine_before k b i t / unit - fine_before k b i (a + n) / unit) (sym e) in
@@ -152,7 +145,7 @@ of_some k b stretch i range some fits all uncut =
     let xs = stretch_values k b stretch i in
     let long : length xs ≡ n = length-map-range_with_len (λ j. b.value (a + j) i) 0 n in
     let m = moments xs in
-    let fair : fair_moments xs ≡ m = fair_of_all xs (omega arith) (all ∙ sym long) in
+    let fair : fair_moments xs ≡ m = fair_of_all xs (all ∙ sym long) in
     let s = scale_of k.plan (is_masked k i) m in
     let up = sums_up k b i a s n (λ t low high. (
       ap (λ r. scale_by k b r i) (in_stretch k b stretch t (let h = range.plan.some_spectra in omega arith) fits low high)

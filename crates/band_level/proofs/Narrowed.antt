@@ -1,5 +1,5 @@
 -- Scales of 32 bits stand for those of 64.
-use Rattle.std.proofs.Common.{◌≡◌, ℕ, ◌+◌, ◌*◌, ◌^◌, ◌≤◌, List, length, arith}
+use Rattle.std.proofs.Common.{ℕ, ◌+◌, ◌*◌, ◌^◌, ◌≤◌, List, length, arith}
 use Rattle.std.proofs.Math.Nat.{mul-le-mul_left}
 use Rattle.band_level.specs.Scales.{unit}
 use Rattle.band_level.specs.Rows.{AreNarrow, LevelsRow, NarrowAt}

@@ -5,7 +5,7 @@ use Rattle.std.proofs.lemmas.Bool.{cases_lt}
 use Rattle.std.proofs.lemmas.List.FromFn.{fill_by_all}
 use Rattle.band_level.specs.declared.plan.Plan.{Plan}
 use Rattle.band_level.specs.declared.finish.Spread.{Spread}
-use Rattle.band_level.specs.Finished.{kept_before, kept_total, means, share, balanced, without_mean}
+use Rattle.band_level.specs.Finished.{kept_before, kept_total, share, balanced, without_mean}
 use Rattle.band_level.specs.Shares.{with_share, left_over, spread_level}
 use Rattle.band_level.proofs.Fills.{Fills}
 use Rattle.band_level.proofs.Kept.{kept_none, kept_more, kept_some}
@@ -69,7 +69,7 @@ spread_begins s m lt =
     ap (λ j. j * s.amount + s.start) (kept_none m) ∙ omega arith in
     sym (ap (λ x. x % s.count) none ∙ mod-mul-add 0 s.count s.start lt)
 
-kept_next : (m : ℕ → Bool) (i : ℕ) (b : Bool) → b ≡ m i
+pub kept_next : (m : ℕ → Bool) (i : ℕ) (b : Bool) → b ≡ m i
     → cond b (kept_before m i) (kept_before m i + 1) ≡ kept_before m (i + 1)
 kept_next m i b is = count_next b (kept_before m i) ∙ ap (λ c. kept_before m i + cond c 0 1) is ∙ sym (kept_more m i)
   where
@@ -77,49 +77,26 @@ kept_next m i b is = count_next b (kept_before m i) ∙ ap (λ c. kept_before m 
     count_next true j = omega arith
     count_next false j = refl
 
-pub record Goes (s : Spread) (m : ℕ → Bool) (old new : List ℕ) (i next : ℕ) : Type 0 where
-  pub below : next < s.count
-  pub left : next ≡ left_over s (kept_before m i)
-  pub levels : Fills old new i (spread_level s m old)
-  pub small : (k : ℕ) → k < length old → slice_index new k ≤ s.most
-
-pub spread_goes_on : (s : Spread) (m : ℕ → Bool) (old now new : List ℕ) (i : ℕ) (b : Bool) (left next : ℕ) → b ≡ m i
-    → left ≡ left_over s (kept_before m i) → Fills old now i (spread_level s m old)
-    → ((k : ℕ) → k < length old → slice_index now k ≤ s.most)
-    → next < s.count
-    → ((j : ℕ) → left ≡ left_over s j → next ≡ left_over s (cond b j (j + 1)))
-    → ((j : ℕ) → left ≡ left_over s j → slice_index new i
-    ≡ cond b (slice_index now i) (with_share s (share s.count s.amount s.start j) (slice_index now i)))
-    → slice_index new i ≤ s.most
+pub spread_more : (s : Spread) (m : ℕ → Bool) (old now new : List ℕ) (i : ℕ) (b : Bool) → b ≡ m i
+    → Fills old now i (spread_level s m old)
+    → slice_index new i ≡ cond b (slice_index now i)
+    (with_share s (share s.count s.amount s.start (kept_before m i)) (slice_index now i))
     → ((k : ℕ) → k ≢ i → slice_index new k ≡ slice_index now k)
-    → Goes s m old new (i + 1) next
-spread_goes_on s m old now new i b left next is so_far fills small below behind here least others =
-    let j = kept_before m i in
-    let same : slice_index now i ≡ slice_index old i = fills.rest i (omega arith) in
-    let level : slice_index new i ≡ spread_level s m old i =
-    here j so_far
-    ∙ ap (λ x. cond b x (with_share s (share s.count s.amount s.start j) x)) same
-    ∙ ap (λ c. cond c (slice_index old i) (with_share s (share s.count s.amount s.start j) (slice_index old i))) is in
-    record {
-      below = below;
-      left = behind j so_far ∙ ap (left_over s) (kept_next m i b is);
-      levels = record {
-        done = λ k lt. elim (cases_lt k i) [
-          | inl before ↦ others k (λ e. absurd (omega arith)) ∙ fills.done k before
-          | inr last ↦
-              let e : k ≡ i = omega arith in
-              ap (slice_index new) e ∙ level ∙ sym (ap (spread_level s m old) e)
-        ];
-        rest = λ k le. others k (λ e. absurd (omega arith)) ∙ fills.rest k (omega arith);
-      };
-      small = λ k lt. elim (cases_lt k i) [
-        | inl before ↦ let e = others k (λ e. absurd (omega arith)) in let h = small k lt in omega arith
-        | inr after ↦ elim (cases_lt i k) [
-          | inl behind ↦ let e = others k (λ e. absurd (omega arith)) in let h = small k lt in omega arith
-          | inr at ↦
-              let e : k ≡ i = omega arith in
-              let f = ap (slice_index new) e in
-              omega arith
-        ]
-      ];
-    }
+    → Fills old new (i + 1) (spread_level s m old)
+spread_more s m old now new i b is fills here others = record {
+  done = λ k lt. elim (cases_lt k i) [
+    | inl before ↦ others k (λ e. absurd (omega arith)) ∙ fills.done k before
+    | inr last ↦
+        let e : k ≡ i = omega arith in
+        rw e (rw (is, fills.rest i (omega arith)) at here)
+  ];
+  rest = λ k le. others k (λ e. absurd (omega arith)) ∙ fills.rest k (omega arith);
+}
+
+pub level_most : (s : Spread) (m : ℕ → Bool) (old : List ℕ) (i : ℕ) → slice_index old i ≤ s.most
+    → spread_level s m old i ≤ s.most
+level_most s m old i small = of_mark (m i) (slice_index old i) _ s.most small
+  where
+    of_mark : (b : Bool) (y x most : ℕ) → y ≤ most → cond b y (min most x) ≤ most
+    of_mark true y x most few = few
+    of_mark false y x most few = omega arith

@@ -1,5 +1,5 @@
 -- A spectrum that is levelled, and one more.
-use Rattle.std.proofs.Common.{◌≡◌, ℕ, ◌+◌, ◌-◌, ◌*◌, ◌/◌, ◌%◌, ◌<◌, ◌++◌, min, List, [], length, take, slice_index, refl, sym, ◌∙◌, ap, subst, append_assoc, append-nil, arith}
+use Rattle.std.proofs.Common.{◌≡◌, ℕ, ◌+◌, ◌-◌, ◌*◌, ◌/◌, ◌%◌, ◌<◌, ◌++◌, min, List, length, slice_index, refl, sym, ◌∙◌, ap, subst, append_assoc, append-nil, arith}
 use Rattle.std.specs.List.{range_with_len, flat_map}
 use Rattle.std.proofs.lemmas.List.FromFn.{fill_by_all}
 use Rattle.band_level.proofs.Ranges.{flat_map_range_more, sum_range_more}
@@ -8,7 +8,7 @@ use Rattle.band_level.specs.Holding.{Holding, held_value}
 use Rattle.band_level.specs.Scales.{Scale, unit}
 use Rattle.band_level.specs.Finished.{finished}
 use Rattle.band_level.specs.Levelled.{Task, is_masked, scale_at, fine, fine_before, whole, level, value_bytes, spectrum_levels}
-use Rattle.band_level.specs.Rows.{LevelsRow, HoldScales, units_at}
+use Rattle.band_level.specs.Rows.{LevelsRow, HoldScales, scale_held, units_at}
 use Rattle.band_level.specs.Spectra.{AreHeld, Carried, LevelsSpectra}
 
 -- what all spectra before have, and one more
@@ -16,14 +16,11 @@ pub fine_more : (k : Task) (b : Band) (i t : ℕ) → fine_before k b i (t + 1) 
 unfolding fine_before
 fine_more k b i t = sum_range_more (fine k b i) t
 
-abbrev scale_held' : ℕ → ℕ → ℕ → Scale
-scale_held' gain base lift = record { gain = gain; base = base; lift = lift }
-
-pub fine_is : (k : Task) (b : Band) (i t gain base lift x : ℕ)
-    → scale_held' gain base lift ≡ scale_at k b t i → x ≡ b.value t i → base + gain * x ≡ fine k b i t
+pub fine_is : (k : Task) (b : Band) (i t : ℕ) (s : Scale) (x : ℕ) → s ≡ scale_at k b t i → x ≡ b.value t i
+    → s.base + s.gain * x ≡ fine k b i t
 unfolding fine
-fine_is k b i t gain base lift x scale is =
-    ap (λ (s : Scale). s.base + s.gain * x) scale
+fine_is k b i t s x scale is =
+    ap (λ (z : Scale). z.base + z.gain * x) scale
     ∙ ap (λ y. (scale_at k b t i).base + (scale_at k b t i).gain * y) is
 
 -- the fraction of a sum, and its whole part
@@ -42,7 +39,7 @@ module _ (k : Task) (b : Band) (t : ℕ) (row gains bases lifts fractions levels
       × (units_at row gains bases fractions i / unit ≡ whole k b i t)
   here i lt = carried_on (fine_before k b i t) (fine k b i t) (fine_before k b i (t + 1)) _ _ (fine_more k b i t)
       (carried i lt)
-      (ap (λ v. v + slice_index fractions i) (fine_is k b i t _ _ _ _ (scales i lt) (values i lt)))
+      (ap (λ v. v + slice_index fractions i) (fine_is k b i t (scale_held gains bases lifts i) _ (scales i lt) (values i lt)))
 
   pub spectrum_carried : Carried k b (t + 1) fractions'
   spectrum_carried i lt = levelled.fraction i (omega (arith, long)) ∙ (here i lt).0

@@ -51,32 +51,33 @@ held_cells l bytes start t i range place fits here =
     held_is f l.held (drop n bytes) t i range place.held (omega arith) here
     ∙ cell_dropped f bytes n t (start + t) i range (omega arith) (omega arith) here
 
--- bytes that are held behind the others
-at_more : (l : Levelling) (next : Holding) (bytes piece : List ℕ) (start stretches : ℕ) → FormatInRange l.task.format
-    → 0 < l.task.plan.spectra → start ≡ stretches * l.task.plan.spectra → l.first ≡ 0
-    → Puts l.task.format l.held next piece → IsAt l bytes start → IsAt (record l { held = next }) (bytes ++ piece) start
-at_more l next bytes piece start stretches range some is_start first puts place =
-    let size = place.size in
-    let n = start * spectrum_bytes l.task.format in
-    let agree = prefix_agrees l.task bytes piece stretches start range some is_start (omega arith) in
-    record {
-      size = omega (arith, length-append bytes piece, puts.size);
-      held = subst (λ (xs : List ℕ). Holds l.task.format next xs) (sym (drop-append-le n bytes piece (omega arith)))
-          (puts.holds (drop n bytes) place.held);
-      carried = λ i lt. place.carried i lt
-          ∙ ap (λ x. x % unit)
-          (before_agrees l.task (band_of l bytes) (band_of l (bytes ++ piece)) stretches agree (start + l.first) i
-          (omega arith) lt);
-    }
+module _ (l : Levelling) (next : Holding) (bytes piece : List ℕ) (start stretches : ℕ)
+    (range : FormatInRange l.task.format) (some : 0 < l.task.plan.spectra)
+    (is_start : start ≡ stretches * l.task.plan.spectra) (first : l.first ≡ 0) (place : IsAt l bytes start) where
+  agrees : Agree l.task (band_of l bytes) (band_of l (bytes ++ piece)) stretches
+  agrees =
+      let size = place.size in
+      prefix_agrees l.task bytes piece stretches start range some is_start (omega arith)
 
-levels_more : (l : Levelling) (bytes piece : List ℕ) (start stretches : ℕ) → FormatInRange l.task.format
-    → 0 < l.task.plan.spectra → start ≡ stretches * l.task.plan.spectra → l.first ≡ 0 → IsAt l bytes start
-    → first_levels l.task (band_of l bytes) (start + l.first)
-    ≡ first_levels l.task (band_of l (bytes ++ piece)) (start + l.first)
-levels_more l bytes piece start stretches range some is_start first place =
-    let size = place.size in
-    let agree = prefix_agrees l.task bytes piece stretches start range some is_start (omega arith) in
-    levels_agree l.task (band_of l bytes) (band_of l (bytes ++ piece)) stretches agree (start + l.first) (omega arith)
+  -- bytes that are held behind the others
+  at_more : Puts l.task.format l.held next piece → IsAt (record l { held = next }) (bytes ++ piece) start
+  at_more puts =
+      let size = place.size in
+      let n = start * spectrum_bytes l.task.format in
+      record {
+        size = omega (arith, length-append bytes piece, puts.size);
+        held = subst (λ (xs : List ℕ). Holds l.task.format next xs) (sym (drop-append-le n bytes piece (omega arith)))
+            (puts.holds (drop n bytes) place.held);
+        carried = λ i lt. place.carried i lt
+            ∙ ap (λ x. x % unit)
+            (before_agrees l.task (band_of l bytes) (band_of l (bytes ++ piece)) stretches agrees (start + l.first) i
+            (omega arith) lt);
+      }
+
+  levels_more : first_levels l.task (band_of l bytes) (start + l.first)
+      ≡ first_levels l.task (band_of l (bytes ++ piece)) (start + l.first)
+  levels_more =
+      levels_agree l.task (band_of l bytes) (band_of l (bytes ++ piece)) stretches agrees (start + l.first) (omega arith)
 
 -- ---- stages
 
@@ -144,11 +145,11 @@ at_front l gains bases lifts is_scaled last has_ended bytes start first place = 
 
 -- ---- bytes that are taken
 
-module _ (l : Levelling) (next : Holding) (piece : List ℕ) (range : FormatInRange l.task.format)
+module _ (l mid : Levelling) (piece : List ℕ) (range : FormatInRange l.task.format)
     (some : 0 < l.task.plan.spectra) (goes_on : l.has_ended ≡ false) (none : pending l ≡ 0)
-    (puts : Puts l.task.format l.held next piece) where
-  levels_short : held_bytes l.task.format next < stretch_bytes l.task → (bytes out : List ℕ)
-      → Levels l bytes out → Levels (record l { held = next }) (bytes ++ piece) out
+    (is : mid ≡ record l { held = mid.held }) (puts : Puts l.task.format l.held mid.held piece) where
+  levels_short : held_bytes l.task.format mid.held < stretch_bytes l.task → (bytes out : List ℕ)
+      → Levels l bytes out → Levels (record l { held = mid.held }) (bytes ++ piece) out
   levels_short short bytes out (start, stretch, stands, is_out) =
       let waits = is_waiting l bytes start stretch stands goes_on none in
       let on = begins l start stretch waits in
@@ -156,7 +157,7 @@ module _ (l : Levelling) (next : Holding) (piece : List ℕ) (range : FormatInRa
         start,
         stretch,
         record {
-          place = at_more l next bytes piece start on.0 range some on.1 waits.first puts stands.place;
+          place = at_more l mid.held bytes piece start on.0 range some on.1 waits.first stands.place puts;
           order = stands.order;
           scales = λ is_scaled i lt.
               let is_start = waits.scaled is_scaled in
@@ -173,26 +174,26 @@ module _ (l : Levelling) (next : Holding) (piece : List ℕ) (range : FormatInRa
             begins = waits.begins;
           };
         },
-        is_out ∙ levels_more l bytes piece start on.0 range some on.1 waits.first stands.place,
+        is_out ∙ levels_more l mid.held bytes piece start on.0 range some on.1 waits.first stands.place,
       )
 
-  levels_whole : (gains bases lifts : List ℕ) → held_bytes l.task.format next ≡ stretch_bytes l.task
-      → HeldScales l next l.task.plan.spectra gains bases lifts → (bytes out : List ℕ) → Levels l bytes out
-      → Levels (scheduled (record l { held = next }) gains bases lifts true l.task.plan.spectra false) (bytes ++ piece) out
+  levels_whole : (gains bases lifts : List ℕ) → held_bytes l.task.format mid.held ≡ stretch_bytes l.task
+      → HeldScales l mid.held l.task.plan.spectra gains bases lifts → (bytes out : List ℕ) → Levels l bytes out
+      → Levels (scheduled (record l { held = mid.held }) gains bases lifts true l.task.plan.spectra false) (bytes ++ piece) out
   levels_whole gains bases lifts long scales bytes out (start, stretch, stands, is_out) =
       let n = l.task.plan.spectra in
       let waits = is_waiting l bytes start stretch stands goes_on none in
       let on = begins l start stretch waits in
-      let place = at_more l next bytes piece start on.0 range some on.1 waits.first puts stands.place in
+      let place = at_more l mid.held bytes piece start on.0 range some on.1 waits.first stands.place puts in
       let size = place.size in
       let all : start + n ≤ length (bytes ++ piece) / spectrum_bytes l.task.format =
       le-div (start + n) _ _ (some_bytes l.task.format range) (omega arith) in (
         start,
         on.0,
         record {
-          place = at_front (record l { held = next }) gains bases lifts true n false (bytes ++ piece) start waits.first place;
+          place = at_front (record l { held = mid.held }) gains bases lifts true n false (bytes ++ piece) start waits.first place;
           order = omega arith;
-          scales = λ is_scaled. held_scales (record l { held = next }) (bytes ++ piece) start on.0 n gains bases lifts
+          scales = λ is_scaled. held_scales (record l { held = mid.held }) (bytes ++ piece) start on.0 n gains bases lifts
               range place on.1 (omega arith) (omega arith) scales;
           stage = inr (inl record {
             goes_on = refl;
@@ -203,38 +204,25 @@ module _ (l : Levelling) (next : Holding) (piece : List ℕ) (range : FormatInRa
             begins = on.1;
           });
         },
-        is_out ∙ levels_more l bytes piece start on.0 range some on.1 waits.first stands.place
+        is_out ∙ levels_more l mid.held bytes piece start on.0 range some on.1 waits.first stands.place
             ∙ ap (λ k. first_levels l.task (band_of l (bytes ++ piece)) (start + k)) waits.first,
       )
 
--- they leave the stretch short
-pub takes_short : (l m : Levelling) (piece : List ℕ) → FormatInRange l.task.format → 0 < l.task.plan.spectra
-    → l.has_ended ≡ false → pending l ≡ 0 → m ≡ record l { held = m.held } → Puts l.task.format l.held m.held piece
-    → held_bytes m.task.format m.held < stretch_bytes m.task → Takes l m piece
-takes_short l m piece range some goes_on none is puts short =
-    let few = subst (λ (x : Levelling). held_bytes x.task.format x.held < stretch_bytes x.task) is short in
-    subst (λ (x : Levelling). Takes l x piece) (sym is)
-    record { task = refl; ended = refl; levels = levels_short l m.held piece range some goes_on none puts few }
+  -- they leave the stretch short
+  pub takes_short : held_bytes mid.task.format mid.held < stretch_bytes mid.task → Takes l mid piece
+  takes_short short =
+      let few = subst (λ (x : Levelling). held_bytes x.task.format x.held < stretch_bytes x.task) is short in
+      subst (λ (x : Levelling). Takes l x piece) (sym is) record { task = refl; ended = refl; levels = levels_short few }
 
--- they fill it, and its scales are made
-pub takes_whole : (l mid scaled m : Levelling) (piece : List ℕ) (n : ℕ) → FormatInRange l.task.format
-    → 0 < l.task.plan.spectra → l.has_ended ≡ false → pending l ≡ 0 → mid ≡ record l { held = mid.held }
-    → Puts l.task.format l.held mid.held piece → held_bytes mid.task.format mid.held ≡ stretch_bytes mid.task
-    → n ≡ mid.task.plan.spectra → Measures mid scaled n → m ≡ record scaled { first = 0; last = n; has_ended = false }
-    → Takes l m piece
-takes_whole l mid scaled m piece n range some goes_on none is puts long is_n measures scheduled_is =
-    let all = subst (λ (x : Levelling). held_bytes x.task.format x.held ≡ stretch_bytes x.task) is long in
-    let made = subst (λ (x : Levelling). Measures x scaled x.task.plan.spectra) is
-    (subst (λ (k : ℕ). Measures mid scaled k) is_n measures) in
-    let it : m ≡ scheduled (record l { held = mid.held }) scaled.gains scaled.bases scaled.lifts true
-    l.task.plan.spectra false =
-    scheduled_is ∙ ap (λ (x : Levelling). record x { first = 0; last = n; has_ended = false }) made.same
-    ∙ ap (λ k. scheduled (record l { held = mid.held }) scaled.gains scaled.bases scaled.lifts true k false)
-    (is_n ∙ ap (λ (x : Levelling). x.task.plan.spectra) is) in
-    subst (λ (x : Levelling). Takes l x piece) (sym it)
-    record {
-      task = refl;
-      ended = sym goes_on;
-      levels = levels_whole l mid.held piece range some goes_on none puts scaled.gains scaled.bases scaled.lifts all
-          made.scales;
-    }
+  -- they fill it, and its scales are made
+  pub takes_whole : (next m : Levelling) (n : ℕ) → held_bytes mid.task.format mid.held ≡ stretch_bytes mid.task
+      → n ≡ mid.task.plan.spectra → next ≡ record mid { first = 0; last = n; has_ended = false } → Measures next m n
+      → Takes l m piece
+  takes_whole next m n long is_n next_is measures =
+      let all = subst (λ (x : Levelling). held_bytes x.task.format x.held ≡ stretch_bytes x.task) is long in
+      let made = subst (λ (k : ℕ). Measures (record l { held = mid.held; first = 0; last = k; has_ended = false }) m k)
+      (is_n ∙ ap (λ (x : Levelling). x.task.plan.spectra) is)
+      (subst (λ (x : Levelling). Measures x m n)
+      (next_is ∙ ap (λ (x : Levelling). record x { first = 0; last = n; has_ended = false }) is) measures) in
+      subst (λ (x : Levelling). Takes l x piece) (sym made.same)
+      record { task = refl; ended = sym goes_on; levels = levels_whole m.gains m.bases m.lifts all made.scales }

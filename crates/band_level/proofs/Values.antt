@@ -1,5 +1,5 @@
 -- The values of data bytes: where they lie, and what neighbouring spectra add up to.
-use Rattle.std.proofs.Common.{◌≡◌, ℕ, ◌+◌, ◌*◌, ◌/◌, ◌<◌, ◌≤◌, inl, inr, List, sym, ◌∙◌, ap, arith, Bool, true, false, cond, ◌==◌, zero, suc, ◌%◌, ◌⊎◌, slice_index, if◌then◌else◌, refl, subst}
+use Rattle.std.proofs.Common.{◌≡◌, ℕ, ◌+◌, ◌*◌, ◌/◌, ◌<◌, ◌≤◌, inl, inr, List, sym, ◌∙◌, ap, arith, Bool, true, false, cond, ◌==◌, ◌%◌, ◌⊎◌, slice_index, if◌then◌else◌, refl}
 use Rattle.std.specs.List.{range_with_len, sum_by}
 use Rattle.std.proofs.Math.Nat.{mul-le-mul, mul-le-mul_right}
 use Rattle.band_level.specs.declared.format.Format.{Format}

@@ -22,14 +22,8 @@ zero_long xs n is = let zero_value : ℕ = 0 in ap length is ∙ length-replicat
 pub piece_most : (size wide : ℕ) → max (size / wide) 1 * wide ≤ size + wide
 piece_most size wide = elim (cases_lt 1 (size / wide)) [
   | inl more ↦
-      let e : max (size / wide) 1 ≡ size / wide = omega arith in
-      let part : max (size / wide) 1 * wide ≡ size / wide * wide = ap (λ n. n * wide) e in
-      let fits : size / wide * wide ≤ size = div-mul-le_self size wide in
-      omega arith
-  | inr one ↦
-      let e : max (size / wide) 1 ≡ 1 = omega arith in
-      let part : max (size / wide) 1 * wide ≡ 1 * wide = ap (λ n. n * wide) e in
-      omega arith
+      let e : max (size / wide) 1 ≡ size / wide = omega arith in rw e (omega (arith, div-mul-le_self size wide))
+  | inr one ↦ let e : max (size / wide) 1 ≡ 1 = omega arith in rw e (omega arith)
 ]
 
 pub piece_least : (size wide : ℕ) → wide ≤ max (size / wide) 1 * wide

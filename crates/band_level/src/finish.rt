@@ -210,7 +210,6 @@ fn spread_at(spread: Spread, is_masked: bool, levels: &mut [u32], i: usize, left
         ≡ (if is_masked then slice_index levels.old i
         else with_share spread (share spread.count spread.amount spread.start j)
         (slice_index levels.old i)) }
-    ensures small { slice_index levels.new i ≤ spread.most }
     ensures others { (k : ℕ) → k ≢ i → slice_index levels.new k ≡ slice_index levels.old k }
 {
     if is_masked {

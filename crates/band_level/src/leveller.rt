@@ -135,8 +135,8 @@ impl Leveller {
         let count = self.hold(bytes);
         if self.is_full() {
             let all = self.task.plan.spectra as usize;
-            self.measure(all);
             self.schedule(all, false);
+            self.measure(all);
         }
         count
     }

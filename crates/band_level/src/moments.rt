@@ -118,23 +118,6 @@ fn add_far(
     }
 }
 
-// Adds all values of a row to the sums.
-fn add_row(row: &[u32], totals: &mut [u64], squares: &mut [u64])
-    requires totals { length totals.old ≡ length row.now }
-    requires squares { length squares.old ≡ length row.now }
-    requires values { (i : ℕ) → slice_index row.now i ≤ 4194303 }
-    requires small { AreBelow 1048575 totals.old squares.old }
-    ensures totals { (i : ℕ) → i < length row.now → slice_index totals.new i
-        ≡ slice_index totals.old i + slice_index row.now i }
-    ensures squares { (i : ℕ) → i < length row.now → slice_index squares.new i
-        ≡ slice_index squares.old i + slice_index row.now i * slice_index row.now i }
-    ensures small { (n : ℕ) → AreBelow n totals.old squares.old
-        → AreBelow (n + 1) totals.new squares.new }
-{
-    add_totals(row, totals);
-    add_squares(row, squares);
-}
-
 /// Makes the sums of the first `count` spectra. The row is working space.
 pub fn add_up(
     held: &Held,
@@ -160,7 +143,8 @@ pub fn add_up(
     squares.fill(0);
     for t in 0..count {
         held.read(row, format, t);
-        add_row(row, totals, squares);
+        add_totals(row, totals);
+        add_squares(row, squares);
     }
 }
 

@@ -1,10 +1,8 @@
-use Rattle.std.proofs.Common.{◌≡◌, ℕ, List, ◌+◌, ◌*◌, ◌/◌, length, take, slice_index, ◌∙◌, sym, ap, subst, arith}
+use Rattle.std.proofs.Common.{◌≡◌, ◌+◌, ◌*◌, ◌/◌, length, take, ◌∙◌, ap, arith}
 use Rattle.band_level.specs.Values.{cells}
 use Rattle.band_level.specs.Finished.{finished}
 use Rattle.band_level.specs.Levelled.{marks_cell}
-use Rattle.band_level.specs.Rows.{NarrowAt}
 use Rattle.band_level.specs.Sound.{task_in}
-use Rattle.band_level.specs.Spectra.{LevelsSpectra, written_bytes}
 use Rattle.band_level.proofs.SpectraLevelled.{one_levelled}
 use Rattle.band_level.proofs.Written.{written}
 use Rattle.band_level.proofs.spectra.level_spectrum.Goals as goal

@@ -1,4 +1,4 @@
-use Rattle.std.proofs.Common.{◌≡◌, false, ◌∙◌, sym, ap, arith}
+use Rattle.std.proofs.Common.{false, ◌∙◌, sym, ap, arith}
 use Rattle.band_level.specs.Levelling.{Levelling}
 use Rattle.band_level.proofs.Giving.{ends_scaled, ends_made}
 use Rattle.band_level.proofs.leveller.Leveller.end.Goals as goal

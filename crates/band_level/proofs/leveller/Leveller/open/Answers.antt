@@ -1,4 +1,4 @@
-use Rattle.std.proofs.Common.{◌≡◌, ℕ, refl, ◌*◌, ◌/◌, ◌<◌, ◌≤◌, ◌^◌, inl, inr, max, length, ◌∙◌, ap, arith}
+use Rattle.std.proofs.Common.{refl, ◌*◌, ◌/◌, ◌≤◌, inl, inr, max, length, ◌∙◌, ap, arith}
 use Rattle.std.proofs.Math.Nat.{mul-le-mul}
 use Rattle.band_level.specs.declared.format.Format.{Format}
 use Rattle.band_level.specs.declared.plan.Plan.{Plan}
