@@ -8,7 +8,6 @@ use Rattle.std.proofs.lemmas.List.FromFn.{length-map-range_with_len}
 use Rattle.band_level.specs.Values.{Band}
 use Rattle.band_level.specs.Moments.{Moments, moments, fair_moments, is_near, distance}
 use Rattle.band_level.specs.Scales.{Scale, scale_of, unit}
-use Rattle.band_level.specs.Ranges.{TaskInRange}
 use Rattle.band_level.specs.Levelled.{Task, is_masked, stretch_spectra, stretch_values, scale_by, stretch_for, scale_at, fine, fine_before, whole, level}
 use Rattle.band_level.specs.Laws.{IsUncut, MeansAreKept}
 use Rattle.band_level.proofs.Ranges.{few_left, mapped_sum_more, sum_range_more_from}
@@ -42,10 +41,7 @@ fair_of_all xs all = elim (fair_where xs) [
 -- ---- the sum of a stretch, in numbers
 
 above : (v n : ℕ) → 0 < n → v < n * (v / n) + n
-above v n some =
-    let split = div-add-mod' v n in
-    let rest = mod_below v n some in
-    omega arith
+above v n some = omega (arith, div-add-mod' v n, mod_below v n some)
 
 -- n times the base, and what the gain makes of the values
 based : (n mean lift product base : ℕ) → 0 < n
@@ -73,17 +69,7 @@ bounded n mean lift before s total few low high is = omega arith
 -- what is added up of a lift that was rounded up
 lifted : (product n : ℕ) → 0 < n → product ≤ n * 1048576 * (product / (n * 1048576) + 1)
 lifted product n some =
-    let h = above product (n * 1048576) (omega arith) in
-    omega arith
-
--- nothing lies before all spectra
-none_before : (stretch n : ℕ) → 0 < n → stretch * n ≡ 0 → stretch ≡ 0
-none_before stretch n some none = elim (cases_lt 0 stretch) [
-  | inl there ↦
-      let one : 1 * n ≤ stretch * n = mul-le-mul_right n there in
-      absurd (omega arith)
-  | inr nowhere ↦ omega arith
-]
+    omega (arith, above product (n * 1048576) (omega arith))
 
 -- a spectrum of a stretch is levelled by it
 in_stretch : (k : Task) (b : Band) (stretch t : ℕ) → 0 < k.plan.spectra
@@ -94,7 +80,11 @@ in_stretch k b stretch t some fits low high =
     let own : t / n ≡ stretch = quotient t stretch n low (omega arith) in
     elim (cases_lt b.spectra n) [
       | inl short ↦
-          let first : stretch ≡ 0 = none_before stretch n some (omega arith) in
+          let none : stretch * n ≡ 0 = omega arith in
+          let first : stretch ≡ 0 = elim (cases_lt 0 stretch) [
+            | inl there ↦ let one : 1 * n ≤ stretch * n = mul-le-mul_right n there in absurd (omega arith)
+            | inr nowhere ↦ omega arith
+          ] in
           omega arith
       | inr long ↦ own_stretch k b (stretch + 1) t some (omega arith) (omega arith) ∙ own
     ]
@@ -132,41 +122,32 @@ sums_up k b i a s (suc n) each =
     (ap (λ m. sum_by (λ x. x) (map value (range_with_len 0 m))) g ∙ mapped_sum_more (λ x. x) value n) in
     (omega (arith, so_far.0, so_far.1), omega (arith, so_far.1))
 
--- of some spectra
-of_some : (k : Task) (b : Band) (stretch i : ℕ) → TaskInRange k → 0 < stretch_spectra k b
-    → stretch * k.plan.spectra + stretch_spectra k b ≤ b.spectra
-    → (fair_moments (stretch_values k b stretch i)).count ≡ stretch_spectra k b
-    → ((t : ℕ) → stretch * k.plan.spectra ≤ t → t < stretch * k.plan.spectra + stretch_spectra k b → IsUncut k b i t)
-    → distance (1000 * sum_by (level k b i) (range_with_len (stretch * k.plan.spectra) (stretch_spectra k b)))
-    (stretch_spectra k b * k.plan.mean) < 2000
-of_some k b stretch i range some fits all uncut =
-    let n = stretch_spectra k b in
-    let a = stretch * k.plan.spectra in
-    let xs = stretch_values k b stretch i in
-    let long : length xs ≡ n = length-map-range_with_len (λ j. b.value (a + j) i) 0 n in
-    let m = moments xs in
-    let fair : fair_moments xs ≡ m = fair_of_all xs (all ∙ sym long) in
-    let s = scale_of k.plan (is_masked k i) m in
-    let up = sums_up k b i a s n (λ t low high. (
-      ap (λ r. scale_by k b r i) (in_stretch k b stretch t (let h = range.plan.some_spectra in omega arith) fits low high)
-          ∙ ap (scale_of k.plan (is_masked k i)) fair,
-      uncut t low high,
-    )) in
-    let levels = up.0 in
-    let fines : fine_before k b i (a + n) ≡ fine_before k b i a + (n * s.base + s.gain * m.total) = up.1 in
-    let product = s.gain * m.total in
-    let count : m.count ≡ n = long in
-    let lift_is : s.lift ≡ product / (n * 1048576) + 1 = ap (λ c. product / (c * 1048576) + 1) count in
-    let base_is : s.base ≡ (k.plan.mean * n * 1048576 / 1000 + n * 1048576 * s.lift - product) / n =
-    ap (λ c. (k.plan.mean * c * 1048576 / 1000 + c * 1048576 * s.lift - product) / c) count in
-    let enough_lift : product ≤ n * 1048576 * s.lift =
-    subst (λ (l : ℕ). product ≤ n * 1048576 * l) (sym lift_is) (lifted product n some) in
-    let range_of = based n k.plan.mean s.lift product s.base some base_is enough_lift in
-    bounded n k.plan.mean s.lift (fine_before k b i a) (n * s.base + product) _
-    (let h = range.plan.most_spectra in omega arith) range_of.0 range_of.1 (omega arith)
-
 pub means : MeansAreKept
 means k b stretch i range fits all uncut = elim (cases_lt 0 (stretch_spectra k b)) [
-  | inl some ↦ of_some k b stretch i range some fits all uncut
+  | inl some ↦
+      let n = stretch_spectra k b in
+      let a = stretch * k.plan.spectra in
+      let xs = stretch_values k b stretch i in
+      let long : length xs ≡ n = length-map-range_with_len (λ j. b.value (a + j) i) 0 n in
+      let m = moments xs in
+      let fair : fair_moments xs ≡ m = fair_of_all xs (all ∙ sym long) in
+      let s = scale_of k.plan (is_masked k i) m in
+      let up = sums_up k b i a s n (λ t low high. (
+        ap (λ r. scale_by k b r i) (in_stretch k b stretch t (let h = range.plan.some_spectra in omega arith) fits low high)
+            ∙ ap (scale_of k.plan (is_masked k i)) fair,
+        uncut t low high,
+      )) in
+      let levels = up.0 in
+      let fines : fine_before k b i (a + n) ≡ fine_before k b i a + (n * s.base + s.gain * m.total) = up.1 in
+      let product = s.gain * m.total in
+      let count : m.count ≡ n = long in
+      let lift_is : s.lift ≡ product / (n * 1048576) + 1 = ap (λ c. product / (c * 1048576) + 1) count in
+      let base_is : s.base ≡ (k.plan.mean * n * 1048576 / 1000 + n * 1048576 * s.lift - product) / n =
+      ap (λ c. (k.plan.mean * c * 1048576 / 1000 + c * 1048576 * s.lift - product) / c) count in
+      let enough_lift : product ≤ n * 1048576 * s.lift =
+      subst (λ (l : ℕ). product ≤ n * 1048576 * l) (sym lift_is) (lifted product n some) in
+      let range_of = based n k.plan.mean s.lift product s.base some base_is enough_lift in
+      bounded n k.plan.mean s.lift (fine_before k b i a) (n * s.base + product) _
+      (let h = range.plan.most_spectra in omega arith) range_of.0 range_of.1 (omega arith)
   | inr none ↦ let nothing : stretch_spectra k b ≡ 0 = omega arith in rw nothing (omega arith)
 ]
