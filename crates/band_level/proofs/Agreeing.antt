@@ -1,6 +1,6 @@
 -- Bands that have their first whole stretches in common.
-use Rattle.std.proofs.Common.{◌≡◌, ℕ, zero, suc, ◌+◌, ◌-◌, ◌*◌, ◌/◌, ◌<◌, ◌≤◌, ◌++◌, min, List, ◌∷◌, map, refl, ◌∙◌, sym, ap, arith}
-use Rattle.std.specs.List.{range_with_len, flat_map}
+use Rattle.std.proofs.Common.{◌≡◌, ℕ, ◌+◌, ◌-◌, ◌*◌, ◌/◌, ◌<◌, ◌≤◌, min, ◌∙◌, sym, ap, arith}
+use Rattle.std.specs.List.{flat_map}
 use Rattle.std.proofs.Math.Nat.{mul-le-mul_right}
 use Rattle.std.proofs.lemmas.Nat.{div_below, le-div}
 use Rattle.band_level.specs.Values.{Band, cells}
@@ -8,7 +8,7 @@ use Rattle.band_level.specs.Moments.{fair_moments}
 use Rattle.band_level.specs.Scales.{Scale, scale_of, unit}
 use Rattle.band_level.specs.Finished.{finished}
 use Rattle.band_level.specs.Levelled.{Task, is_masked, stretch_values, scale_by, stretch_for, scale_at, fine, fine_before, level, value_bytes, spectrum_levels, first_levels}
-use Rattle.band_level.proofs.Shifts.{sums_agree}
+use Rattle.band_level.proofs.Ranges.{maps_agree, pieces_agree, sums_agree}
 
 -- the first so many whole stretches are the same
 pub record Agree (k : Task) (b c : Band) (stretches : ℕ) : Type 0 where
@@ -16,20 +16,6 @@ pub record Agree (k : Task) (b c : Band) (stretches : ℕ) : Type 0 where
   pub enough : stretches * k.plan.spectra ≤ b.spectra
   pub others : stretches * k.plan.spectra ≤ c.spectra
   pub values : (t i : ℕ) → t < stretches * k.plan.spectra → i < cells k.format → b.value t i ≡ c.value t i
-
-pub maps_agree : (f g : ℕ → ℕ) (a n : ℕ) → ((t : ℕ) → a ≤ t → t < a + n → f t ≡ g t)
-    → map f (range_with_len a n) ≡ map g (range_with_len a n)
-maps_agree f g a zero same = refl
-maps_agree f g a (suc n) same =
-    ap (λ xs. f a ∷ xs) (maps_agree f g (a + 1) n (λ t low high. same t (omega arith) (omega arith)))
-    ∙ ap (λ x. x ∷ map g (range_with_len (a + 1) n)) (same a (omega arith) (omega arith))
-
-pub pieces_agree : (f g : ℕ → List ℕ) (a n : ℕ) → ((t : ℕ) → a ≤ t → t < a + n → f t ≡ g t)
-    → flat_map f (range_with_len a n) ≡ flat_map g (range_with_len a n)
-pieces_agree f g a zero same = refl
-pieces_agree f g a (suc n) same =
-    ap (λ xs. f a ++ xs) (pieces_agree f g (a + 1) n (λ t low high. same t (omega arith) (omega arith)))
-    ∙ ap (λ x. x ++ flat_map g (range_with_len (a + 1) n)) (same a (omega arith) (omega arith))
 
 -- a spectrum of whole stretches is levelled by its own
 pub own_stretch : (k : Task) (b : Band) (stretches t : ℕ) → 0 < k.plan.spectra → stretches * k.plan.spectra ≤ b.spectra
@@ -47,10 +33,8 @@ module _ (k : Task) (b c : Band) (stretches : ℕ) (agree : Agree k b c stretche
       let all : min n b.spectra ≡ n = let e = agree.enough in omega arith in
       let all_too : min n c.spectra ≡ n = let e = agree.others in omega arith in
       let values : stretch_values k b s i ≡ stretch_values k c s i =
-      ap (λ m. map (λ j. b.value (s * n + j) i) (range_with_len 0 m)) all
-      ∙ maps_agree (λ j. b.value (s * n + j) i) (λ j. c.value (s * n + j) i) 0 n
-      (λ j low high. agree.values (s * n + j) i (omega arith) here)
-      ∙ ap (λ m. map (λ j. c.value (s * n + j) i) (range_with_len 0 m)) (sym all_too) in
+      rw (all, all_too) (maps_agree 0 (λ j. b.value (s * n + j) i) (λ j. c.value (s * n + j) i) n
+      (λ j lt. agree.values (s * n + j) i (omega arith) here)) in
       ap (λ xs. scale_of k.plan (is_masked k i) (fair_moments xs)) values
 
   at_agrees : (t i : ℕ) → t < stretches * k.plan.spectra → i < cells k.format → scale_at k b t i ≡ scale_at k c t i
@@ -71,7 +55,7 @@ module _ (k : Task) (b c : Band) (stretches : ℕ) (agree : Agree k b c stretche
       → fine_before k b i t ≡ fine_before k c i t
   unfolding fine_before
   before_agrees t i le here =
-      sums_agree (fine k b i) (fine k c i) 0 t (λ u low high. fine_agrees u i (omega arith) here)
+      sums_agree (fine k b i) (fine k c i) t (λ u lt. fine_agrees u i (omega arith) here)
 
   level_agrees : (t i : ℕ) → t < stretches * k.plan.spectra → i < cells k.format → level k b i t ≡ level k c i t
   level_agrees t i lt here =
@@ -86,10 +70,9 @@ module _ (k : Task) (b c : Band) (stretches : ℕ) (agree : Agree k b c stretche
   unfolding spectrum_levels
   spectrum_agrees t lt =
       ap (λ xs. flat_map (value_bytes k.plan.bits) (finished k.plan (is_masked k) xs))
-      (maps_agree (λ i. level k b i t) (λ i. level k c i t) 0 (cells k.format)
-      (λ i low high. level_agrees t i lt (omega arith)))
+      (maps_agree 0 (λ i. level k b i t) (λ i. level k c i t) (cells k.format) (λ i here. level_agrees t i lt here))
 
   pub levels_agree : (n : ℕ) → n ≤ stretches * k.plan.spectra → first_levels k b n ≡ first_levels k c n
   unfolding first_levels
   levels_agree n le =
-      pieces_agree (spectrum_levels k b) (spectrum_levels k c) 0 n (λ t low high. spectrum_agrees t (omega arith))
+      pieces_agree (spectrum_levels k b) (spectrum_levels k c) n (λ t lt. spectrum_agrees t (omega arith))

@@ -1,5 +1,5 @@
 -- Cells that aren't masked, counted and added up.
-use Rattle.std.proofs.Common.{◌≡◌, ℕ, zero, suc, ◌+◌, ◌<◌, ◌≤◌, Bool, true, false, cond, inl, inr, List, slice_index, refl, sym, ◌∙◌, ap, arith}
+use Rattle.std.proofs.Common.{◌≡◌, ℕ, zero, suc, ◌+◌, ◌<◌, Bool, false, cond, inl, inr, List, slice_index, refl, sym, ◌∙◌, ap, arith}
 use Rattle.std.proofs.lemmas.Bool.{cases_lt}
 use Rattle.band_level.specs.Finished.{kept_before, kept_sum}
 use Rattle.band_level.proofs.Ranges.{sum_range_more}
@@ -23,10 +23,6 @@ pub total_none : (is_masked : ℕ → Bool) (values : List ℕ) → kept_sum is_
 unfolding kept_sum
 total_none is_masked values = refl
 
-pub one_most : (b : Bool) → cond b 0 1 ≤ 1
-one_most true = omega arith
-one_most false = omega arith
-
 -- a cell that isn't masked is counted
 kept_one : (is_masked : ℕ → Bool) (i n : ℕ) → i ≡ n → is_masked i ≡ false
     → kept_before is_masked (n + 1) ≡ kept_before is_masked n + 1
@@ -38,8 +34,7 @@ pub kept_some : (is_masked : ℕ → Bool) (i n : ℕ) → i < n → is_masked i
 kept_some is_masked i zero lt keeps = absurd (omega arith)
 kept_some is_masked i (suc n) lt keeps =
     let e : suc n ≡ n + 1 = omega arith in
-    let same : kept_before is_masked (suc n) ≡ kept_before is_masked (n + 1) = ap (kept_before is_masked) e in
-    elim (cases_lt i n) [
-      | inl before ↦ omega (arith, same, kept_some is_masked i n before keeps, kept_more is_masked n)
-      | inr last ↦ omega (arith, same, kept_one is_masked i n (omega arith) keeps)
-    ]
+    rw e (elim (cases_lt i n) [
+      | inl before ↦ omega (arith, kept_some is_masked i n before keeps, kept_more is_masked n)
+      | inr last ↦ omega (arith, kept_one is_masked i n (omega arith) keeps)
+    ])

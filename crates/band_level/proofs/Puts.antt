@@ -1,5 +1,5 @@
 -- What is held of a stretch, as its bytes come.
-use Rattle.std.proofs.Common.{◌≡◌, ℕ, refl, ◌+◌, ◌-◌, ◌*◌, ◌/◌, ◌<◌, ◌≤◌, ◌⊎◌, inl, inr, Bool, true, false, cond, ltb, eqb, List, [], ◌++◌, length, take, drop, slice_index, ◌∙◌, sym, ap, subst, arith, length-append, length-drop, append-nil, append_assoc}
+use Rattle.std.proofs.Common.{◌≡◌, ℕ, refl, ◌+◌, ◌-◌, ◌*◌, ◌<◌, ◌≤◌, ◌⊎◌, inl, inr, Bool, true, false, cond, ltb, eqb, List, [], ◌++◌, length, take, drop, slice_index, ◌∙◌, sym, ap, subst, arith, length-append, length-drop, append-nil, append_assoc}
 use Rattle.std.proofs.Math.Nat.{mul-le-mul, mul-le-mul_right}
 use Rattle.std.proofs.lemmas.Bool.{cases_lt, lt-ltb, true≢false}
 use Rattle.std.proofs.lemmas.Bool.Decides.{nat_tests}
@@ -7,8 +7,9 @@ use Rattle.std.proofs.lemmas.List.{get_or_append_left, get_or-drop, get_or_past,
 use Rattle.band_level.specs.declared.format.Format.{Format}
 use Rattle.band_level.specs.Ranges.{FormatInRange}
 use Rattle.band_level.specs.Values.{cells, spectrum_bytes, cell_value, most_value}
-use Rattle.band_level.specs.Holding.{Holding, AddsUp, HasSpectra, Holds, IsRoomFor, Puts, WritesRow, cleared, held_value}
-use Rattle.band_level.proofs.Shifts.{cell_shift}
+use Rattle.band_level.specs.declared.sums.Sums.{Sums}
+use Rattle.band_level.specs.Holding.{Holding, AddsUp, HasSpectra, HeldFits, Holds, Puts, WritesRow, cleared, held_value, sums_of}
+use Rattle.band_level.proofs.Values.{few_cells, some_bytes, cell_shift}
 
 -- ---- sizes
 
@@ -34,25 +35,6 @@ as_few a b size some fits = elim (cases_lt b a) [
   | inr ge ↦ ge
 ]
 
--- a spectrum has no more cells than bytes
-few_cells : (f : Format) → FormatInRange f → cells f ≤ spectrum_bytes f
-few_cells f range =
-    let width : 1 ≤ f.bits / 8 = elim range.bits [
-      | inl e ↦ omega arith
-      | inr e ↦ omega arith
-    ] in
-    let one : 1 * cells f ≤ f.bits / 8 * cells f = mul-le-mul_right (cells f) width in
-    let all : 1 * (cells f * (f.bits / 8)) ≤ f.average * (cells f * (f.bits / 8)) =
-    mul-le-mul_right (cells f * (f.bits / 8)) range.some_average in
-    omega arith
-
--- where the sums of a spectrum begin
-pub place_fits : (f : Format) (t count size room : ℕ) → FormatInRange f → size ≡ spectrum_bytes f → t ≤ count
-    → count * size ≤ room → t * cells f ≤ room
-place_fits f t count size room range is few fits =
-    let part : t * cells f ≤ count * size = mul-le-mul few (omega (arith, few_cells f range)) in
-    omega arith
-
 -- ---- room
 
 -- bytes that fill their place are those of one spectrum, and its sums have a place
@@ -62,49 +44,51 @@ pub record HasPlace (f : Format) (spectra count limit sums : ℕ) : Type 0 where
   pub few : count + 1 ≤ spectra
   pub inside : count * cells f + cells f ≤ sums
 
-module _ (f : Format) (spectra spectrum room count limit filled sums : ℕ) (spectrum_is : spectrum ≡ spectrum_bytes f)
-    (room_is : room ≡ spectra * spectrum) (kind : IsRoomFor f spectra count limit sums)
-    (short : count * spectrum + filled < room) where
-  pub has_place : filled ≡ limit → HasPlace f spectra count limit sums
-  has_place full = elim kind [
-    | inl all ↦
-        let same : spectra * spectrum ≡ spectra * spectrum_bytes f = ap (λ n. spectra * n) spectrum_is in
-        let long = all.0 in
-        absurd (omega arith)
+module _ {f : Format} {spectra spectrum room count filled : ℕ} {sums : Sums} {bytes row : List ℕ}
+    (held : HeldFits f spectra spectrum room count sums bytes filled row) where
+  -- where the sums of a spectrum begin
+  pub place_fits : (t : ℕ) → t ≤ count → t * cells f ≤ room
+  place_fits t few =
+      let part : t * cells f ≤ count * spectrum =
+      mul-le-mul few (omega (arith, few_cells f held.in_range, held.spectrum_is)) in
+      omega (arith, held.inside)
+
+  all_bytes : spectra * spectrum ≡ spectra * spectrum_bytes f
+  all_bytes = ap (λ n. spectra * n) held.spectrum_is
+
+  pub has_place : count * spectrum + filled < room → filled ≡ length bytes
+      → HasPlace f spectra count (length bytes) (length (sums_of sums))
+  has_place short full = elim held.kind [
+    | inl all ↦ absurd (omega (arith, all.0, all_bytes, held.room_is))
     | inr one ↦
-        let long = one.1 in
-        let few : count + 1 ≤ spectra = one_fits count spectra spectrum (omega arith) in
+        let few : count + 1 ≤ spectra = one_fits count spectra spectrum (omega (arith, held.room_is)) in
         let part : (count + 1) * cells f ≤ spectra * cells f = mul-le-mul_right (cells f) few in
-        record { one = one.0; sums_long = long; few = few; inside = omega (arith, one_more count (cells f)) }
+        record { one = one.0; sums_long = one.1; few = few; inside = omega (arith, one.1, one_more count (cells f)) }
   ]
 
   -- what fits into its place fits into the room
-  pub has_room : (n : ℕ) → filled + n ≤ limit → count * spectrum + (filled + n) ≤ room
-  has_room n fits = elim kind [
+  pub has_room : count * spectrum + filled < room → (n : ℕ) → filled + n ≤ length bytes
+      → count * spectrum + (filled + n) ≤ room
+  has_room short n fits = elim held.kind [
     | inl all ↦
-        let same : spectra * spectrum ≡ spectra * spectrum_bytes f = ap (λ n. spectra * n) spectrum_is in
-        let none : count * spectrum ≡ 0 * spectrum = ap (λ n. n * spectrum) all.1 in
-        let long = all.0 in
-        omega arith
+        let none : count * spectrum ≡ 0 * spectrum = ap (λ k. k * spectrum) all.1 in
+        omega (arith, all.0, all_bytes, held.room_is)
     | inr one ↦
-        let long = one.0 in
-        let few : count + 1 ≤ spectra = one_fits count spectra spectrum (omega arith) in
+        let few : count + 1 ≤ spectra = one_fits count spectra spectrum (omega (arith, held.room_is)) in
         let part : (count + 1) * spectrum ≤ spectra * spectrum = mul-le-mul_right spectrum few in
-        omega (arith, one_more count spectrum)
+        omega (arith, one.0, held.spectrum_is, held.room_is, one_more count spectrum)
   ]
 
--- a spectrum that was added up has its sums
-pub has_sums : (f : Format) (spectra count limit sums t size room filled : ℕ) → IsRoomFor f spectra count limit sums
-    → size ≡ spectrum_bytes f → 0 < size → room ≡ spectra * size → count * size + filled ≤ room → t < count
-    → t * cells f + cells f ≤ sums
-has_sums f spectra count limit sums t size room filled kind is some room_is fits lt = elim kind [
-  | inl all ↦ let none = all.1 in absurd (omega arith)
-  | inr one ↦
-      let long = one.1 in
-      let few : count ≤ spectra = as_few count spectra size some (omega arith) in
-      let part : (t + 1) * cells f ≤ spectra * cells f = mul-le-mul_right (cells f) (omega arith) in
-      omega (arith, one_more t (cells f))
-]
+  -- a spectrum that was added up has its sums
+  pub has_sums : (t : ℕ) → t < count → t * cells f + cells f ≤ length (sums_of sums)
+  has_sums t lt = elim held.kind [
+    | inl all ↦ absurd (omega (arith, all.1))
+    | inr one ↦
+        let few : count ≤ spectra = as_few count spectra spectrum
+        (omega (arith, some_bytes f held.in_range, held.spectrum_is)) (omega (arith, held.inside, held.room_is)) in
+        let part : (t + 1) * cells f ≤ spectra * cells f = mul-le-mul_right (cells f) (omega arith) in
+        omega (arith, one.1, one_more t (cells f))
+  ]
 
 -- sums in 16 bits are those of bytes
 pub narrow_for : (bits : ℕ) (b : Bool) → (bits ≡ 8) ⊎ (bits ≡ 16) → b ≡ eqb bits 16 → b ≡ false → bits ≡ 8
@@ -209,59 +193,40 @@ puts_bytes f h piece range = record {
 
 -- ---- sums
 
-module _ (h : Holding) (sums : List ℕ) (range : FormatInRange h.format)
-    (whole : length h.bytes ≡ spectrum_bytes h.format)
-    (before : (k : ℕ) → k < h.count * cells h.format → slice_index sums k ≡ slice_index h.sums k)
-    (row : (i : ℕ) → i < cells h.format
-    → slice_index sums (h.count * cells h.format + i) ≡ cell_value h.format h.bytes 0 i) where
-  abbrev summed : Holding
-  summed = record h { count = h.count + 1; sums = sums; bytes = [] }
-
-  last_is : (bytes : List ℕ) → Holds h.format h bytes → (i : ℕ) → i < cells h.format
-      → cell_value h.format h.bytes 0 i ≡ cell_value h.format bytes h.count i
-  last_is bytes holds i here =
-      let f = h.format in
-      let n = h.count * spectrum_bytes f in
+-- a spectrum whose bytes are there is added up
+sum_is : (h m : Holding) → FormatInRange h.format → AddsUp h m → (bytes : List ℕ) → Holds h.format h bytes → (t i : ℕ)
+    → t < h.count + 1 → i < cells h.format
+    → slice_index m.sums (t * cells h.format + i) ≡ cell_value h.format bytes t i
+sum_is h m range adds bytes holds t i lt here = elim (cases_lt t h.count) [
+  | inl earlier ↦
+      let part : (t + 1) * cells h.format ≤ h.count * cells h.format = mul-le-mul_right _ (omega arith) in
+      adds.before (t * cells h.format + i) (omega (arith, one_more t (cells h.format))) ∙ holds.sums t i earlier here
+  | inr late ↦
+      let n = h.count * spectrum_bytes h.format in
+      let whole = adds.whole in
       let size = holds.size in
-      ap (λ xs. cell_value f xs 0 i) holds.rest
-      ∙ cell_dropped f bytes n 0 h.count i range (omega arith) (omega (arith, length-drop n bytes)) here
-
-  sum_is : (bytes : List ℕ) → Holds h.format h bytes → (t i : ℕ) → t < h.count + 1 → i < cells h.format
-      → slice_index sums (t * cells h.format + i) ≡ cell_value h.format bytes t i
-  sum_is bytes holds t i lt here = elim (cases_lt t h.count) [
-    | inl earlier ↦
-        let f = h.format in
-        let part : (t + 1) * cells f ≤ h.count * cells f = mul-le-mul_right _ (omega arith) in
-        before (t * cells f + i) (omega (arith, one_more t (cells f))) ∙ holds.sums t i earlier here
-    | inr late ↦
-        let f = h.format in
-        let e : t ≡ h.count = omega arith in
-        ap (λ n. slice_index sums (n * cells f + i)) e ∙ row i here ∙ last_is bytes holds i here
-        ∙ ap (λ n. cell_value f bytes n i) (sym e)
-  ]
-
-  holds_sums : (bytes : List ℕ) → Holds h.format h bytes → Holds h.format summed bytes
-  holds_sums bytes holds =
-      let size = holds.size in
-      let more = one_more h.count (spectrum_bytes h.format) in
-      record {
-        size = omega arith;
-        sums = sum_is bytes holds;
-        rest = sym (drop_all ((h.count + 1) * spectrum_bytes h.format) bytes (omega arith));
-      }
-
-  adds_sums : Puts h.format h summed []
-  adds_sums = record {
-    format = refl;
-    room = refl;
-    size = omega (arith, one_more h.count (spectrum_bytes h.format));
-    holds = λ bytes holds.
-        subst (λ (xs : List ℕ). Holds h.format summed xs) (sym (append-nil bytes)) (holds_sums bytes holds);
-  }
+      let e : t ≡ h.count = omega arith in
+      rw e (adds.row i here ∙ ap (λ xs. cell_value h.format xs 0 i) holds.rest
+      ∙ cell_dropped h.format bytes n 0 h.count i range (omega arith) (omega (arith, length-drop n bytes)) here)
+]
 
 pub adds_puts : (h m : Holding) → FormatInRange h.format → AddsUp h m → Puts h.format h m []
-adds_puts h m range adds = subst (λ (x : Holding). Puts h.format h x []) (sym adds.same)
-    (adds_sums h m.sums range adds.whole adds.before adds.row)
+adds_puts h m range adds =
+    let whole = adds.whole in
+    let more = one_more h.count (spectrum_bytes h.format) in
+    subst (λ (x : Holding). Puts h.format h x []) (sym adds.same)
+    record {
+      format = refl;
+      room = refl;
+      size = omega arith;
+      holds = λ bytes holds.
+          let size = holds.size in
+          rw append-nil record {
+            size = omega arith;
+            sums = sum_is h m range adds bytes holds;
+            rest = sym (drop_all ((h.count + 1) * spectrum_bytes h.format) bytes (omega arith));
+          };
+    }
 
 -- the sums of one spectrum more, written behind the others
 module _ (f : Format) (at count : ℕ) (row sums sums' : List ℕ) (is_at : at ≡ count * cells f)
@@ -283,9 +248,7 @@ module _ (f : Format) (at count : ℕ) (row sums sums' : List ℕ) (is_at : at �
         same = refl;
         whole = ap length all ∙ whole;
         before = λ k lt. writes.before k (omega arith);
-        row = λ i lt.
-            ap (λ n. slice_index sums' (n + i)) (sym is_at) ∙ writes.row i (omega arith) ∙ read i lt
-            ∙ ap (λ xs. cell_value f xs 0 i) (sym all);
+        row = λ i lt. rw (← is_at, all) (writes.row i (omega arith) ∙ read i lt);
       }
 
   pub small_sums : ((k : ℕ) → k < count * cells f → slice_index sums k ≤ most_value f)
@@ -299,9 +262,6 @@ module _ (f : Format) (at count : ℕ) (row sums sums' : List ℕ) (is_at : at �
         let is : slice_index sums' (at + (k - at)) ≡ slice_index row (k - at) = writes.row (k - at) last in
         subst (λ (j : ℕ). slice_index sums' j ≤ most_value f) e (omega (arith, is, row_small (k - at)))
   ]
-
-pub adds_in : (h h' m : Holding) → h ≡ h' → AddsUp h m → AddsUp h' m
-adds_in h h' m same adds = subst (λ (x : Holding). AddsUp x m) same adds
 
 -- ---- spectra that are held
 

@@ -5,7 +5,7 @@ use Rattle.std.proofs.lemmas.Bool.{cases_lt}
 use Rattle.std.proofs.lemmas.List.FromFn.{fill_by_all}
 use Rattle.band_level.specs.declared.plan.Plan.{Plan}
 use Rattle.band_level.specs.declared.finish.Spread.{Spread}
-use Rattle.band_level.specs.Finished.{kept_before, kept_total, means, share, balanced, without_mean}
+use Rattle.band_level.specs.Finished.{kept_before, kept_total, share, balanced, without_mean}
 use Rattle.band_level.specs.Shares.{with_share, left_over, spread_level}
 use Rattle.band_level.proofs.Fills.{Fills}
 use Rattle.band_level.proofs.Kept.{kept_none, kept_more, kept_some}
@@ -35,62 +35,6 @@ high_sum n m a left rest some is_left is_rest ge =
 -- the amount of one value more
 pub amount_more : (j amount start : ℕ) → j * amount + start + amount ≡ (j + 1) * amount + start
 amount_more j amount start = omega arith
-
-pub share_is : (n amount start j part : ℕ)
-    → part ≡ (j * amount + start + amount) / n - (j * amount + start) / n → part ≡ share n amount start j
-share_is n amount start j part is =
-    is ∙ ap (λ m. m / n - (j * amount + start) / n) (amount_more j amount start)
-
-pub left_is : (s : Spread) (j left : ℕ) → left ≡ (j * s.amount + s.start + s.amount) % s.count → left ≡ left_over s (j + 1)
-left_is s j left is = is ∙ ap (λ m. m % s.count) (amount_more j s.amount s.start)
-
--- nothing is spread
-no_share : (n start j : ℕ) → share n 0 start j ≡ 0
-no_share n start j =
-    let e : (j + 1) * 0 + start ≡ start = omega arith in
-    let f : j * 0 + start ≡ start = omega arith in
-    ap (λ x. x / n - (j * 0 + start) / n) e ∙ ap (λ x. start / n - x / n) f ∙ omega arith
-
--- ---- how an amount is spread
-
-module _ (r : Spread) (p : Plan) (n total amount start : ℕ) (count : r.count ≡ n) (is_amount : r.amount ≡ amount)
-    (is_start : r.start ≡ start) (most : r.most ≡ p.most) where
-  same_share : (j : ℕ) → share r.count r.amount r.start j ≡ share n amount start j
-  same_share j =
-      ap (λ c. share c r.amount r.start j) count ∙ ap (λ a. share n a r.start j) is_amount
-      ∙ ap (λ b. share n amount b j) is_start
-
-  same_change : (b : Bool) → r.is_taken ≡ b → (j value : ℕ)
-      → with_share r (share r.count r.amount r.start j) value
-      ≡ min p.most (cond b (value - share n amount start j) (value + share n amount start j))
-  same_change b taken j value =
-      ap (λ m. min m (cond r.is_taken (value - share r.count r.amount r.start j)
-      (value + share r.count r.amount r.start j))) most
-      ∙ ap (λ c. min p.most (cond c (value - share r.count r.amount r.start j)
-      (value + share r.count r.amount r.start j))) taken
-      ∙ ap (λ x. min p.most (cond b (value - x) (value + x))) (same_share j)
-
-pub shares_taken : (r : Spread) (p : Plan) (n total : ℕ) → means p n ≤ total → r.count ≡ n
-    → r.amount ≡ total - means p n → r.start ≡ 0 → r.is_taken ≡ true → r.most ≡ p.most → (j value : ℕ)
-    → with_share r (share r.count r.amount r.start j) value ≡ balanced p n total j value
-shares_taken r p n total much count amount start taken most j value =
-    let none : means p n - total ≡ 0 = omega arith in
-    let gains : share n (means p n - total) (n - 1) j ≡ 0 =
-    ap (λ a. share n a (n - 1) j) none ∙ no_share n (n - 1) j in
-    same_change r p n total (total - means p n) 0 count amount start most true taken j value
-    ∙ ap (λ v. min p.most (v - share n (total - means p n) 0 j)) (let e : value ≡ value + 0 = omega arith in e)
-    ∙ ap (λ g. min p.most (value + g - share n (total - means p n) 0 j)) (sym gains)
-
-pub shares_given : (r : Spread) (p : Plan) (n total : ℕ) → total ≤ means p n → r.count ≡ n
-    → r.amount ≡ means p n - total → r.start ≡ n - 1 → r.is_taken ≡ false → r.most ≡ p.most → (j value : ℕ)
-    → with_share r (share r.count r.amount r.start j) value ≡ balanced p n total j value
-shares_given r p n total few count amount start taken most j value =
-    let none : total - means p n ≡ 0 = omega arith in
-    let losses : share n (total - means p n) 0 j ≡ 0 = ap (λ a. share n a 0 j) none ∙ no_share n 0 j in
-    same_change r p n total (means p n - total) (n - 1) count amount start most false taken j value
-    ∙ ap (λ v. min p.most v)
-    (let e : value + share n (means p n - total) (n - 1) j ≡ value + share n (means p n - total) (n - 1) j - 0 = omega arith in e)
-    ∙ ap (λ l. min p.most (value + share n (means p n - total) (n - 1) j - l)) (sym losses)
 
 -- ---- a row
 
@@ -125,7 +69,7 @@ spread_begins s m lt =
     ap (λ j. j * s.amount + s.start) (kept_none m) ∙ omega arith in
     sym (ap (λ x. x % s.count) none ∙ mod-mul-add 0 s.count s.start lt)
 
-kept_next : (m : ℕ → Bool) (i : ℕ) (b : Bool) → b ≡ m i
+pub kept_next : (m : ℕ → Bool) (i : ℕ) (b : Bool) → b ≡ m i
     → cond b (kept_before m i) (kept_before m i + 1) ≡ kept_before m (i + 1)
 kept_next m i b is = count_next b (kept_before m i) ∙ ap (λ c. kept_before m i + cond c 0 1) is ∙ sym (kept_more m i)
   where
@@ -133,49 +77,26 @@ kept_next m i b is = count_next b (kept_before m i) ∙ ap (λ c. kept_before m 
     count_next true j = omega arith
     count_next false j = refl
 
-pub record Goes (s : Spread) (m : ℕ → Bool) (old new : List ℕ) (i next : ℕ) : Type 0 where
-  pub below : next < s.count
-  pub left : next ≡ left_over s (kept_before m i)
-  pub levels : Fills old new i (spread_level s m old)
-  pub small : (k : ℕ) → k < length old → slice_index new k ≤ s.most
-
-pub spread_goes_on : (s : Spread) (m : ℕ → Bool) (old now new : List ℕ) (i : ℕ) (b : Bool) (left next : ℕ) → b ≡ m i
-    → left ≡ left_over s (kept_before m i) → Fills old now i (spread_level s m old)
-    → ((k : ℕ) → k < length old → slice_index now k ≤ s.most)
-    → next < s.count
-    → ((j : ℕ) → left ≡ left_over s j → next ≡ left_over s (cond b j (j + 1)))
-    → ((j : ℕ) → left ≡ left_over s j → slice_index new i
-    ≡ cond b (slice_index now i) (with_share s (share s.count s.amount s.start j) (slice_index now i)))
-    → slice_index new i ≤ s.most
+pub spread_more : (s : Spread) (m : ℕ → Bool) (old now new : List ℕ) (i : ℕ) (b : Bool) → b ≡ m i
+    → Fills old now i (spread_level s m old)
+    → slice_index new i ≡ cond b (slice_index now i)
+    (with_share s (share s.count s.amount s.start (kept_before m i)) (slice_index now i))
     → ((k : ℕ) → k ≢ i → slice_index new k ≡ slice_index now k)
-    → Goes s m old new (i + 1) next
-spread_goes_on s m old now new i b left next is so_far fills small below behind here least others =
-    let j = kept_before m i in
-    let same : slice_index now i ≡ slice_index old i = fills.rest i (omega arith) in
-    let level : slice_index new i ≡ spread_level s m old i =
-    here j so_far
-    ∙ ap (λ x. cond b x (with_share s (share s.count s.amount s.start j) x)) same
-    ∙ ap (λ c. cond c (slice_index old i) (with_share s (share s.count s.amount s.start j) (slice_index old i))) is in
-    record {
-      below = below;
-      left = behind j so_far ∙ ap (left_over s) (kept_next m i b is);
-      levels = record {
-        done = λ k lt. elim (cases_lt k i) [
-          | inl before ↦ others k (λ e. absurd (omega arith)) ∙ fills.done k before
-          | inr last ↦
-              let e : k ≡ i = omega arith in
-              ap (slice_index new) e ∙ level ∙ sym (ap (spread_level s m old) e)
-        ];
-        rest = λ k le. others k (λ e. absurd (omega arith)) ∙ fills.rest k (omega arith);
-      };
-      small = λ k lt. elim (cases_lt k i) [
-        | inl before ↦ let e = others k (λ e. absurd (omega arith)) in let h = small k lt in omega arith
-        | inr after ↦ elim (cases_lt i k) [
-          | inl behind ↦ let e = others k (λ e. absurd (omega arith)) in let h = small k lt in omega arith
-          | inr at ↦
-              let e : k ≡ i = omega arith in
-              let f = ap (slice_index new) e in
-              omega arith
-        ]
-      ];
-    }
+    → Fills old new (i + 1) (spread_level s m old)
+spread_more s m old now new i b is fills here others = record {
+  done = λ k lt. elim (cases_lt k i) [
+    | inl before ↦ others k (λ e. absurd (omega arith)) ∙ fills.done k before
+    | inr last ↦
+        let e : k ≡ i = omega arith in
+        rw e (rw (is, fills.rest i (omega arith)) at here)
+  ];
+  rest = λ k le. others k (λ e. absurd (omega arith)) ∙ fills.rest k (omega arith);
+}
+
+pub level_most : (s : Spread) (m : ℕ → Bool) (old : List ℕ) (i : ℕ) → slice_index old i ≤ s.most
+    → spread_level s m old i ≤ s.most
+level_most s m old i small = of_mark (m i) (slice_index old i) _ s.most small
+  where
+    of_mark : (b : Bool) (y x most : ℕ) → y ≤ most → cond b y (min most x) ≤ most
+    of_mark true y x most few = few
+    of_mark false y x most few = omega arith

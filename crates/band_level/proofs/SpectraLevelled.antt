@@ -1,30 +1,26 @@
 -- A spectrum that is levelled, and one more.
-use Rattle.std.proofs.Common.{◌≡◌, ℕ, ◌+◌, ◌-◌, ◌*◌, ◌/◌, ◌%◌, ◌<◌, ◌++◌, min, List, [], length, take, slice_index, refl, sym, ◌∙◌, ap, subst, append_assoc, append-nil, arith}
+use Rattle.std.proofs.Common.{◌≡◌, ℕ, ◌+◌, ◌-◌, ◌*◌, ◌/◌, ◌%◌, ◌<◌, ◌++◌, min, List, length, slice_index, refl, sym, ◌∙◌, ap, subst, append_assoc, append-nil, arith}
 use Rattle.std.specs.List.{range_with_len, flat_map}
 use Rattle.std.proofs.lemmas.List.FromFn.{fill_by_all}
-use Rattle.band_level.proofs.Ranges.{flat_map_range_more}
+use Rattle.band_level.proofs.Ranges.{flat_map_range_more, sum_range_more}
 use Rattle.band_level.specs.Values.{Band, cells}
 use Rattle.band_level.specs.Holding.{Holding, held_value}
 use Rattle.band_level.specs.Scales.{Scale, unit}
 use Rattle.band_level.specs.Finished.{finished}
 use Rattle.band_level.specs.Levelled.{Task, is_masked, scale_at, fine, fine_before, whole, level, value_bytes, spectrum_levels}
-use Rattle.band_level.specs.Rows.{LevelsRow, HoldScales, units_at}
+use Rattle.band_level.specs.Rows.{LevelsRow, HoldScales, scale_held, units_at}
 use Rattle.band_level.specs.Spectra.{AreHeld, Carried, LevelsSpectra}
-use Rattle.band_level.proofs.Ranges.{sum_range_more}
 
 -- what all spectra before have, and one more
-fine_more : (k : Task) (b : Band) (i t : ℕ) → fine_before k b i (t + 1) ≡ fine_before k b i t + fine k b i t
+pub fine_more : (k : Task) (b : Band) (i t : ℕ) → fine_before k b i (t + 1) ≡ fine_before k b i t + fine k b i t
 unfolding fine_before
 fine_more k b i t = sum_range_more (fine k b i) t
 
-abbrev scale_held' : ℕ → ℕ → ℕ → Scale
-scale_held' gain base lift = record { gain = gain; base = base; lift = lift }
-
-fine_is : (k : Task) (b : Band) (i t gain base lift x : ℕ)
-    → scale_held' gain base lift ≡ scale_at k b t i → x ≡ b.value t i → base + gain * x ≡ fine k b i t
+pub fine_is : (k : Task) (b : Band) (i t : ℕ) (s : Scale) (x : ℕ) → s ≡ scale_at k b t i → x ≡ b.value t i
+    → s.base + s.gain * x ≡ fine k b i t
 unfolding fine
-fine_is k b i t gain base lift x scale is =
-    ap (λ (s : Scale). s.base + s.gain * x) scale
+fine_is k b i t s x scale is =
+    ap (λ (z : Scale). z.base + z.gain * x) scale
     ∙ ap (λ y. (scale_at k b t i).base + (scale_at k b t i).gain * y) is
 
 -- the fraction of a sum, and its whole part
@@ -43,7 +39,7 @@ module _ (k : Task) (b : Band) (t : ℕ) (row gains bases lifts fractions levels
       × (units_at row gains bases fractions i / unit ≡ whole k b i t)
   here i lt = carried_on (fine_before k b i t) (fine k b i t) (fine_before k b i (t + 1)) _ _ (fine_more k b i t)
       (carried i lt)
-      (ap (λ v. v + slice_index fractions i) (fine_is k b i t _ _ _ _ (scales i lt) (values i lt)))
+      (ap (λ v. v + slice_index fractions i) (fine_is k b i t (scale_held gains bases lifts i) _ (scales i lt) (values i lt)))
 
   pub spectrum_carried : Carried k b (t + 1) fractions'
   spectrum_carried i lt = levelled.fraction i (omega (arith, long)) ∙ (here i lt).0
@@ -79,8 +75,7 @@ one_levelled k held gains bases lifts row levels done old new before after first
     let at : first + 0 ≡ first = omega arith in
     let on : start + 0 ≡ start = omega arith in
     let values : (i : ℕ) → i < cells f → slice_index row i ≡ b.value start i =
-    λ i lt. read i lt ∙ sym (ap (λ j. held_value f held j i) at) ∙ is_held.values 0 i (omega arith) lt
-    ∙ ap (λ t. b.value t i) on in
+    λ i lt. read i lt ∙ (rw (at, on) at (is_held.values 0 i (omega arith) lt)) in
     let scales : HoldScales (cells f) (scale_at k b start) gains bases lifts =
     subst (λ (t : ℕ). HoldScales (cells f) (scale_at k b t) gains bases lifts) on (is_held.scales 0 (omega arith)) in
     record {
@@ -126,21 +121,3 @@ spectra_more k held gains bases lifts old mid new before middle after first coun
           (append-nil (spectrum_levels k b (start + count)))
           ∙ ap (λ xs. before ++ xs) (sym (flat_map_range_more (spectrum_levels k b) start count (start + count) refl));
     }
-
--- the same for a part of what is written to
-pub spectra_next : (k : Task) (held : Holding) (gains bases lifts old mid new before middle out : List ℕ)
-    (first count m n : ℕ) → m ≡ n
-    → LevelsSpectra k held gains bases lifts first count old mid before middle
-    → LevelsSpectra k held gains bases lifts (first + count) 1 mid new middle (take m out)
-    → LevelsSpectra k held gains bases lifts first (count + 1) old new before (take n out)
-spectra_next k held gains bases lifts old mid new before middle out first count m n same so_far one =
-    spectra_more k held gains bases lifts old mid new before middle (take n out) first count (first + count) refl so_far
-    (subst (λ (j : ℕ). LevelsSpectra k held gains bases lifts (first + count) 1 mid new middle (take j out)) same one)
-
-pub spectra_all : (k : Task) (held : Holding) (gains bases lifts old new out : List ℕ)
-    (first t count m n : ℕ) → t ≡ count → m ≡ n
-    → LevelsSpectra k held gains bases lifts first t old new [] (take m out)
-    → LevelsSpectra k held gains bases lifts first count old new [] (take n out)
-spectra_all k held gains bases lifts old new out first t count m n all same levels =
-    subst (λ (j : ℕ). LevelsSpectra k held gains bases lifts first count old new [] (take j out)) same
-    (subst (λ (j : ℕ). LevelsSpectra k held gains bases lifts first j old new [] (take m out)) all levels)

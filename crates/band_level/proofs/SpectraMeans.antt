@@ -56,24 +56,18 @@ module _ (p : Plan) (m : ℕ → Bool) (old new : List ℕ) (n total : ℕ) (som
       → kept_sum m new (i + 1) + lost_by (kept_before m (i + 1))
       ≡ kept_sum m old (i + 1) + gained_by (kept_before m (i + 1))
   cell i true masks lt so_far =
-      let kept : kept_before m (i + 1) ≡ kept_before m i =
-      kept_more m i ∙ ap (λ b. kept_before m i + cond b 0 1) masks ∙ omega arith in
-      let news : kept_sum m new (i + 1) ≡ kept_sum m new i =
-      total_more m new i ∙ ap (λ b. kept_sum m new i + cond b 0 (slice_index new i)) masks ∙ omega arith in
-      let olds : kept_sum m old (i + 1) ≡ kept_sum m old i =
-      total_more m old i ∙ ap (λ b. kept_sum m old i + cond b 0 (slice_index old i)) masks ∙ omega arith in
+      let kept : kept_before m (i + 1) ≡ kept_before m i = omega (arith, rw masks at (kept_more m i)) in
+      let news : kept_sum m new (i + 1) ≡ kept_sum m new i = omega (arith, rw masks at (total_more m new i)) in
+      let olds : kept_sum m old (i + 1) ≡ kept_sum m old i = omega (arith, rw masks at (total_more m old i)) in
       let l = ap lost_by kept in
       let g = ap gained_by kept in
       omega arith
   cell i false keeps lt so_far =
       let j = kept_before m i in
-      let kept : kept_before m (i + 1) ≡ j + 1 = kept_more m i ∙ ap (λ b. j + cond b 0 1) keeps in
-      let news : kept_sum m new (i + 1) ≡ kept_sum m new i + slice_index new i =
-      total_more m new i ∙ ap (λ b. kept_sum m new i + cond b 0 (slice_index new i)) keeps in
-      let olds : kept_sum m old (i + 1) ≡ kept_sum m old i + slice_index old i =
-      total_more m old i ∙ ap (λ b. kept_sum m old i + cond b 0 (slice_index old i)) keeps in
-      let here : slice_index new i ≡ balanced p n total j (slice_index old i) =
-      levels i lt ∙ ap (λ b. cond b (slice_index old i) (balanced p n total j (slice_index old i))) keeps in
+      let kept : kept_before m (i + 1) ≡ j + 1 = rw keeps at (kept_more m i) in
+      let news = rw keeps at (total_more m new i) in
+      let olds = rw keeps at (total_more m old i) in
+      let here : slice_index new i ≡ balanced p n total j (slice_index old i) = rw keeps at (levels i lt) in
       let u = uncut i lt keeps in
       let low = u.low in
       let high = u.high in

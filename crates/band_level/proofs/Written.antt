@@ -15,30 +15,15 @@ long_written new old long n e f = ap length (written new old long e) ∙ e ∙ f
 
 -- ---- lists of zeroes
 
-abbrev zero_value : ℕ
-zero_value = 0
-
-abbrev zeroes : ℕ → List ℕ
-zeroes n = replicate n zero_value
-
-zeroes_long : (n : ℕ) → length (zeroes n) ≡ n
-zeroes_long n = length-replicate n zero_value
-
 pub zero_long : (xs : List ℕ) (n : ℕ) → xs ≡ replicate n 0 → length xs ≡ n
-zero_long xs n is = ap length is ∙ zeroes_long n
+zero_long xs n is = let zero_value : ℕ = 0 in ap length is ∙ length-replicate n zero_value
 
 -- as many pieces as fit into a size, but at least one
 pub piece_most : (size wide : ℕ) → max (size / wide) 1 * wide ≤ size + wide
 piece_most size wide = elim (cases_lt 1 (size / wide)) [
   | inl more ↦
-      let e : max (size / wide) 1 ≡ size / wide = omega arith in
-      let part : max (size / wide) 1 * wide ≡ size / wide * wide = ap (λ n. n * wide) e in
-      let fits : size / wide * wide ≤ size = div-mul-le_self size wide in
-      omega arith
-  | inr one ↦
-      let e : max (size / wide) 1 ≡ 1 = omega arith in
-      let part : max (size / wide) 1 * wide ≡ 1 * wide = ap (λ n. n * wide) e in
-      omega arith
+      let e : max (size / wide) 1 ≡ size / wide = omega arith in rw e (omega (arith, div-mul-le_self size wide))
+  | inr one ↦ let e : max (size / wide) 1 ≡ 1 = omega arith in rw e (omega arith)
 ]
 
 pub piece_least : (size wide : ℕ) → wide ≤ max (size / wide) 1 * wide

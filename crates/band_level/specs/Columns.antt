@@ -1,10 +1,36 @@
--- The sums that are kept of each cell while a stretch is gone through, spectrum by spectrum.
+-- The sums that are kept of each cell while a stretch is gone through, spectrum by spectrum; and how large moments and
+-- scales may be.
 -- Source: this project's choice.
-use Rattle.std.specs.Prelude.{ℕ, ◌≡◌, ◌+◌, ◌-◌, ◌*◌, ◌^◌, ◌<◌, ◌≤◌, ◌&&◌, Bool, not, List, length, map, filter, sum_by, slice_index, nat_le, cond}
+use Rattle.std.specs.Prelude.{ℕ, ◌≡◌, ◌*◌, ◌≤◌, ◌+◌, ◌-◌, ◌^◌, ◌<◌, ◌&&◌, Bool, not, List, length, map, filter, sum_by, slice_index, nat_le, cond}
+use Rattle.band_level.specs.declared.scale.Moments.{Moments as MomentsHeld}
+use Rattle.band_level.specs.declared.scale.Scale.{Scale as ScaleHeld}
+use Rattle.band_level.specs.Moments.{Moments, is_near}
+use Rattle.band_level.specs.Scales.{Scale, most_gain}
 use Rattle.std.specs.List.{range_with_len}
 use Rattle.band_level.specs.declared.cells.CellMoments.{CellMoments}
 use Rattle.band_level.specs.declared.cells.CellBounds.{CellBounds}
-use Rattle.band_level.specs.Moments.{Moments, is_near}
+
+-- the moments that the code holds
+abbrev pub moments_of : MomentsHeld → Moments
+moments_of m = record { count = m.count; total = m.total; squares = m.squares }
+
+-- those of at most n values below 2^22
+pub record MomentsWithin (n : ℕ) (m : Moments) : Type 0 where
+  pub count : m.count ≤ n
+  pub total : m.total ≤ m.count * 4194303
+  pub squares : m.squares ≤ m.count * 17592177655809
+
+abbrev pub MomentsInRange : Moments → Type 0
+MomentsInRange m = MomentsWithin 1048576 m
+
+-- the scale that the code holds is this one, and its numbers are small
+pub record IsScaleOf (s : ScaleHeld) (t : Scale) : Type 0 where
+  pub gain : s.gain ≡ t.gain
+  pub base : s.base ≡ t.base
+  pub lift : s.lift ≡ t.lift
+  pub most_gain : s.gain ≤ most_gain
+  pub most_base : s.base ≤ 68719476736
+  pub most_lift : s.lift ≤ 4398046511104
 
 -- the values of a cell in the first n spectra
 abbrev pub column : (ℕ → ℕ → ℕ) → ℕ → ℕ → List ℕ
@@ -57,11 +83,20 @@ pub record AreFarSums (value : ℕ → ℕ → ℕ) (cells n : ℕ)
   pub square : (i : ℕ) → i < cells
       → slice_index squares i ≡ sum_by (λ x. x * x) (far_column value lows highs n i)
 
--- no more than n values were counted, and none is above 4194303
-pub record AreSmall (n : ℕ) (counts totals squares : List ℕ) : Type 0 where
-  pub count : (i : ℕ) → slice_index counts i ≤ n
-  pub total : (i : ℕ) → slice_index totals i ≤ slice_index counts i * 4194303
-  pub square : (i : ℕ) → slice_index squares i ≤ slice_index counts i * 17592177655809
+-- the moments of a cell
+abbrev pub moments_held : List ℕ → List ℕ → List ℕ → ℕ → Moments
+moments_held counts totals squares i = record {
+  count = slice_index counts i;
+  total = slice_index totals i;
+  squares = slice_index squares i;
+}
+
+abbrev pub moments_in : CellMoments → ℕ → Moments
+moments_in m = moments_held m.counts.items m.totals.items m.squares.items
+
+-- no more than n values were counted of a cell, and none is above 4194303
+abbrev pub AreSmall : ℕ → List ℕ → List ℕ → List ℕ → Type 0
+AreSmall n counts totals squares = (i : ℕ) → MomentsWithin n (moments_held counts totals squares i)
 
 abbrev pub IsSmall : ℕ → CellMoments → Type 0
 IsSmall n m = AreSmall n m.counts.items m.totals.items m.squares.items
@@ -89,17 +124,6 @@ abbrev pub LosesFar : ℕ → CellMoments → CellMoments → CellMoments → Ty
 LosesFar cells m far m' = LeavesOut cells m.counts.items m.totals.items m.squares.items
     far.counts.items far.totals.items far.squares.items
     m'.counts.items m'.totals.items m'.squares.items
-
--- the moments of a cell
-abbrev pub moments_held : List ℕ → List ℕ → List ℕ → ℕ → Moments
-moments_held counts totals squares i = record {
-  count = slice_index counts i;
-  total = slice_index totals i;
-  squares = slice_index squares i;
-}
-
-abbrev pub moments_in : CellMoments → ℕ → Moments
-moments_in m = moments_held m.counts.items m.totals.items m.squares.items
 
 -- the bounds of a cell hold what lies near the mean of its moments
 pub record AreNear (cells : ℕ) (counts totals squares lows highs : List ℕ) : Type 0 where

@@ -10,7 +10,6 @@ pub mod Levelling
 pub mod Steps
 pub mod Laws
 pub mod Columns
-pub mod Sizes
 pub mod Rows
 pub mod Sound
 pub mod Spectra

@@ -69,14 +69,14 @@ abbrev pub Narrows : ℕ → ℕ → CellScales → NarrowScales → Type 0
 Narrows cells most s n = n.fits ≡ true → AreNarrow cells most s.gains.items s.bases.items
     s.lifts.items n.gains.items n.bases.items n.lifts.items
 
--- lists have a number for each cell
-pub record MomentsLong (cells : ℕ) (counts totals squares : List ℕ) : Type 0 where
-  pub counts_long : length counts ≡ cells
-  pub totals_long : length totals ≡ cells
-  pub squares_long : length squares ≡ cells
+-- three lists have a number for each cell
+pub record AreLong (cells : ℕ) (xs ys zs : List ℕ) : Type 0 where
+  pub first : length xs ≡ cells
+  pub second : length ys ≡ cells
+  pub third : length zs ≡ cells
 
 abbrev pub HasMoments : ℕ → CellMoments → Type 0
-HasMoments cells m = MomentsLong cells m.counts.items m.totals.items m.squares.items
+HasMoments cells m = AreLong cells m.counts.items m.totals.items m.squares.items
 
 pub record BoundsLong (cells : ℕ) (lows highs : List ℕ) : Type 0 where
   pub lows_long : length lows ≡ cells
@@ -85,13 +85,8 @@ pub record BoundsLong (cells : ℕ) (lows highs : List ℕ) : Type 0 where
 abbrev pub HasBounds : ℕ → CellBounds → Type 0
 HasBounds cells b = BoundsLong cells b.lows.items b.highs.items
 
-pub record NarrowLong (cells : ℕ) (gains bases lifts : List ℕ) : Type 0 where
-  pub gains_long : length gains ≡ cells
-  pub bases_long : length bases ≡ cells
-  pub lifts_long : length lifts ≡ cells
-
 abbrev pub HasNarrow : ℕ → NarrowScales → Type 0
-HasNarrow cells n = NarrowLong cells n.gains.items n.bases.items n.lifts.items
+HasNarrow cells n = AreLong cells n.gains.items n.bases.items n.lifts.items
 
 -- what was carried on, and lists of working space
 pub record RowsFit (cells : ℕ) (fractions row levels : List ℕ) : Type 0 where

@@ -1,6 +1,6 @@
 -- What the steps of a leveller leave.
 -- Source: this project's choice.
-use Rattle.std.specs.Prelude.{ℕ, ◌≡◌, ◌+◌, ◌*◌, ◌≤◌, true, List, []}
+use Rattle.std.specs.Prelude.{ℕ, ◌≡◌, ◌+◌, ◌*◌, ◌<◌, ◌≤◌, true, List, []}
 use Rattle.band_level.specs.Values.{cells, spectrum_bytes}
 use Rattle.band_level.specs.Holding.{Holding, held_value}
 use Rattle.band_level.specs.Moments.{fair_moments}
@@ -28,21 +28,11 @@ pub record Measures (l m : Levelling) (count : ℕ) : Type 0 where
       ≡ record l { gains = m.gains; bases = m.bases; lifts = m.lifts; is_scaled = true }
   pub scales : HeldScales l l.held count m.gains m.bases m.lifts
 
--- the next spectra are levelled
-pub record MakesPiece (l m : Levelling) (count : ℕ) : Type 0 where
-  pub same : m ≡ record l { fractions = m.fractions; piece = m.piece }
+-- some of the next spectra are levelled
+pub record MakesPiece (l m : Levelling) : Type 0 where
+  pub count : ℕ
+  pub some : 0 < count
   pub few : l.first + count ≤ l.last
+  pub same : m ≡ record l { fractions = m.fractions; piece = m.piece; first = l.first + count }
   pub levels : LevelsSpectra l.task l.held l.gains l.bases l.lifts
       l.first count l.fractions m.fractions [] m.piece
-
--- a whole stretch is to be levelled
-pub record Begins (l m : Levelling) : Type 0 where
-  pub same : m ≡ record l {
-    gains = m.gains;
-    bases = m.bases;
-    lifts = m.lifts;
-    is_scaled = true;
-    first = 0;
-    last = l.task.plan.spectra;
-  }
-  pub scales : HeldScales l l.held l.task.plan.spectra m.gains m.bases m.lifts

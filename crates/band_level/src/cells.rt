@@ -1,6 +1,6 @@
 // Lists with a number for each cell.
 ghost use Rattle.std.specs.Prelude.{◌≡◌, ℕ, slice_index, IfOk};
-ghost use Rattle.band_level.specs.Rows.{HasBounds, HasMoments, HasNarrow, HasRows, HasScales, SpaceFits};
+ghost use Rattle.band_level.specs.Rows.{HasMoments, HasRows, HasScales, SpaceFits};
 
 use crate::space::{longs, words};
 use psr_base::Memory;
@@ -68,18 +68,6 @@ impl CellMoments {
     }
 }
 
-impl CellBounds {
-    /// Takes the memory for so many cells.
-    pub fn open(alloc: Global, cells: usize) -> Result<CellBounds, Memory>
-        ensures { IfOk result (HasBounds cells) }
-    {
-        Ok(CellBounds {
-            lows: words(alloc, cells)?,
-            highs: words(alloc, cells)?,
-        })
-    }
-}
-
 impl CellScales {
     /// Takes the memory for so many cells.
     pub fn open(alloc: Global, cells: usize) -> Result<CellScales, Memory>
@@ -89,20 +77,6 @@ impl CellScales {
             gains: longs(alloc, cells)?,
             bases: longs(alloc, cells)?,
             lifts: longs(alloc, cells)?,
-        })
-    }
-}
-
-impl NarrowScales {
-    /// Takes the memory for so many cells.
-    pub fn open(alloc: Global, cells: usize) -> Result<NarrowScales, Memory>
-        ensures { IfOk result (HasNarrow cells) }
-    {
-        Ok(NarrowScales {
-            fits: false,
-            gains: words(alloc, cells)?,
-            bases: words(alloc, cells)?,
-            lifts: words(alloc, cells)?,
         })
     }
 }
@@ -117,7 +91,12 @@ impl CellRows {
             fractions: words(alloc, cells)?,
             row: words(alloc, cells)?,
             levels: words(alloc, cells)?,
-            narrow: NarrowScales::open(alloc, cells)?,
+            narrow: NarrowScales {
+                fits: false,
+                gains: words(alloc, cells)?,
+                bases: words(alloc, cells)?,
+                lifts: words(alloc, cells)?,
+            },
         })
     }
 }
@@ -129,7 +108,10 @@ impl CellSpace {
     {
         Ok(CellSpace {
             moments: CellMoments::open(alloc, cells)?,
-            bounds: CellBounds::open(alloc, cells)?,
+            bounds: CellBounds {
+                lows: words(alloc, cells)?,
+                highs: words(alloc, cells)?,
+            },
             far: CellMoments::open(alloc, cells)?,
         })
     }

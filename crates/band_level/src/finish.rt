@@ -21,21 +21,6 @@ fn is_masked(masked: &[bool], polarisations: u32, i: usize) -> bool
     }
 }
 
-// 1 if cell `i` isn't masked.
-#[inline(always)]
-fn one(masked: &[bool], polarisations: u32, i: usize) -> u32
-    requires polarisations { (polarisations ≡ 1) ⊎ (polarisations ≡ 2) }
-    requires inside { i < length masked.now * polarisations }
-    ensures one { result ≡ (if marks_cell masked.now polarisations i then 0 else 1) }
-    ensures few { result ≤ 1 }
-{
-    if is_masked(masked, polarisations, i) {
-        0
-    } else {
-        1
-    }
-}
-
 // A value of cell `i`, if it isn't masked.
 #[inline(always)]
 fn kept(masked: &[bool], polarisations: u32, i: usize, value: u32) -> u32
@@ -62,7 +47,7 @@ fn count_kept(masked: &[bool], polarisations: u32, cells: usize) -> u32
 {
     let mut count = 0;
     for i in 0..cells {
-        count += one(masked, polarisations, i);
+        count += kept(masked, polarisations, i, 1);
     }
     count
 }
@@ -225,7 +210,6 @@ fn spread_at(spread: Spread, is_masked: bool, levels: &mut [u32], i: usize, left
         ≡ (if is_masked then slice_index levels.old i
         else with_share spread (share spread.count spread.amount spread.start j)
         (slice_index levels.old i)) }
-    ensures small { slice_index levels.new i ≤ spread.most }
     ensures others { (k : ℕ) → k ≢ i → slice_index levels.new k ≡ slice_index levels.old k }
 {
     if is_masked {

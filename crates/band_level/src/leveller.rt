@@ -1,10 +1,10 @@
 // Bytes that are fed, as levelled bytes.
-ghost use Rattle.std.specs.Prelude.{◌≡◌, ℕ, ◌+◌, ◌*◌, ◌/◌, ◌<◌, ◌≤◌, ◌⊎◌, List, [], true, false, length, take, IfOk};
+ghost use Rattle.std.specs.Prelude.{◌≡◌, ℕ, ◌+◌, ◌*◌, ◌/◌, ◌<◌, ◌≤◌, List, [], true, false, length, take, IfOk};
 ghost use Rattle.band_level.specs.Values.{cells, spectrum_bytes};
 ghost use Rattle.band_level.specs.Ranges.{FormatInRange, PlanInRange};
 ghost use Rattle.band_level.specs.Holding.{Puts, cleared, held_bytes};
 ghost use Rattle.band_level.specs.Levelling.{Levelling, Levels, Takes, Gives, EndsAs, IsDone, pending};
-ghost use Rattle.band_level.specs.Steps.{Begins, MakesPiece, Measures, stretch_bytes};
+ghost use Rattle.band_level.specs.Steps.{MakesPiece, Measures, stretch_bytes};
 ghost use Rattle.band_level.specs.Rows.{HasRows, HasScales, SpaceFits};
 ghost use Rattle.band_level.specs.Sound.{FitsTask, PieceFits, StretchFits, task_in};
 
@@ -134,7 +134,9 @@ impl Leveller {
         }
         let count = self.hold(bytes);
         if self.is_full() {
-            self.begin();
+            let all = self.task.plan.spectra as usize;
+            self.schedule(all, false);
+            self.measure(all);
         }
         count
     }
@@ -159,19 +161,6 @@ impl Leveller {
             → held_bytes self.now.task.format self.now.held < stretch_bytes self.now.task }
     {
         self.held.is_full()
-    }
-
-    // Makes the scales of a whole stretch, whose spectra are to be levelled next.
-    fn begin(&mut self)
-        requires { held_bytes self.old.task.format self.old.held
-            ≡ stretch_bytes self.old.task }
-        ensures { Begins self.old self.new }
-    {
-        self.bounds();
-        let all = self.task.plan.spectra as usize;
-        self.measure(all);
-        self.first = 0;
-        self.last = all;
     }
 
     // Makes the scales of the first spectra that are held.
@@ -207,15 +196,17 @@ impl Leveller {
         ensures { Gives self.old self.new }
     {
         self.bounds();
-        let count = self.make_piece();
-        self.pass(count);
+        self.make_piece();
+        if self.first < self.last || self.has_ended {
+            return;
+        }
+        self.next_stretch();
     }
 
-    // Levels as many of the next spectra as there is room for, and says how many.
-    fn make_piece(&mut self) -> usize
+    // Levels as many of the next spectra as there is room for.
+    fn make_piece(&mut self)
         requires { 0 < pending self.old }
-        ensures some { 0 < result }
-        ensures makes { MakesPiece self.old self.new result }
+        ensures { MakesPiece self.old self.new }
     {
         let written = self.task.written_bytes();
         let count = (self.last - self.first).min(self.piece.len() / written);
@@ -229,21 +220,13 @@ impl Leveller {
             self.piece.as_mut_slice(),
         );
         self.made = count * written;
-        count
+        self.first += count;
     }
 
-    // Goes on behind spectra that were levelled: to the next ones, or to the next stretch.
-    fn pass(&mut self, count: usize)
-        requires { self.old.first + count ≤ self.old.last }
-        ensures on { (self.old.has_ended ≡ true) ⊎ (self.old.first + count < self.old.last)
-            → self.new ≡ record self.old { first = self.old.first + count } }
-        ensures over { self.old.has_ended ≡ false → self.old.first + count ≡ self.old.last
-            → self.new ≡ record self.old { held = cleared self.old.held; first = 0; last = 0 } }
+    // Forgets a stretch that is levelled.
+    fn next_stretch(&mut self)
+        ensures { self.new ≡ record self.old { held = cleared self.old.held; first = 0; last = 0 } }
     {
-        self.first += count;
-        if self.first < self.last || self.has_ended {
-            return;
-        }
         self.held.clear();
         self.first = 0;
         self.last = 0;
@@ -266,22 +249,7 @@ impl Leveller {
             return;
         }
         let count = self.whole_spectra();
-        self.scale_rest(count);
-        self.stop(count);
-    }
-
-    // Makes the scales of the spectra that are held, where there are none.
-    fn scale_rest(&mut self, count: usize)
-        requires few { count ≤ self.old.task.plan.spectra }
-        requires inside { count * spectrum_bytes self.old.task.format
-            ≤ held_bytes self.old.task.format self.old.held }
-        ensures task { self.new.task ≡ self.old.task }
-        ensures held { self.new.held ≡ self.old.held }
-        ensures kept { (count ≡ 0) ⊎ (self.old.is_scaled ≡ true) → self.new ≡ self.old }
-        ensures made { 0 < count → self.old.is_scaled ≡ false
-            → Measures self.old self.new count }
-    {
-        self.bounds();
+        self.schedule(count, true);
         if count == 0 || self.is_scaled {
             return;
         }
@@ -299,16 +267,17 @@ impl Leveller {
         self.held.whole_spectra()
     }
 
-    // Has these spectra levelled next, which are the last.
-    fn stop(&mut self, count: usize)
+    // Has the first spectra that are held levelled next.
+    fn schedule(&mut self, count: usize, has_ended: bool)
         requires few { count ≤ self.old.task.plan.spectra }
         requires inside { count * spectrum_bytes self.old.task.format
             ≤ held_bytes self.old.task.format self.old.held }
-        ensures { self.new ≡ record self.old { first = 0; last = count; has_ended = true } }
+        ensures { self.new
+            ≡ record self.old { first = 0; last = count; has_ended = has_ended } }
     {
         self.first = 0;
         self.last = count;
-        self.has_ended = true;
+        self.has_ended = has_ended;
     }
 }
 

@@ -3,7 +3,7 @@ ghost use Rattle.std.specs.Prelude.{◌≡◌, ℕ, ◌+◌, ◌-◌, ◌*◌, �
 ghost use Rattle.std.specs.List.{flat_map};
 ghost use Rattle.band_level.specs.Scales.{unit};
 ghost use Rattle.band_level.specs.Levelled.{value_bytes};
-ghost use Rattle.band_level.specs.Rows.{HasNarrow, HasScales, LevelsRow, NarrowLong, Narrows, RowsFit, ScalesFit, units_at};
+ghost use Rattle.band_level.specs.Rows.{HasNarrow, HasScales, LevelsRow, AreLong, Narrows, RowsFit, ScalesFit, units_at};
 
 use crate::cells::{CellScales, NarrowScales};
 use crate::scale::UNIT;
@@ -60,7 +60,7 @@ fn level_narrow(
     fractions: &mut [u32],
     levels: &mut [u32],
 )
-    requires scales { NarrowLong (length row.now) gains.now bases.now lifts.now }
+    requires scales { AreLong (length row.now) gains.now bases.now lifts.now }
     requires rows { RowsFit (length row.now) fractions.old row.now levels.old }
     requires room { (i : ℕ) → i < length row.now → slice_index bases.now i
         + slice_index gains.now i * slice_index row.now i + unit ≤ 2 ^ 32 }

@@ -3,10 +3,9 @@ ghost use Rattle.std.specs.Prelude.{◌≡◌, ℕ, ◌<◌, ◌≤◌, ◌≢�
 ghost use Rattle.band_level.specs.Values.{cells};
 ghost use Rattle.band_level.specs.Holding.{HasSpectra, held_value};
 ghost use Rattle.band_level.specs.Moments.{moments, fair_moments};
-ghost use Rattle.band_level.specs.Columns.{HoldsNear, IsSmall, column, near_column, moments_in};
+ghost use Rattle.band_level.specs.Columns.{HoldsNear, IsSmall, column, near_column, moments_in, MomentsInRange, moments_of};
 ghost use Rattle.band_level.specs.Rows.{HasBounds, HasMoments, HasScales, HoldScales, ScalesFit, SetsScales, SpaceFits, scale_held, scale_in};
 ghost use Rattle.band_level.specs.Scales.{scale_of};
-ghost use Rattle.band_level.specs.Sizes.{MomentsInRange, moments_of};
 ghost use Rattle.band_level.specs.Ranges.{FormatInRange, PlanInRange};
 ghost use Rattle.band_level.specs.Levelled.{is_masked};
 ghost use Rattle.band_level.specs.Sound.{FitsTask, task_in};

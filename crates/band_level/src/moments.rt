@@ -3,29 +3,20 @@ ghost use Rattle.std.specs.Prelude.{◌≡◌, ℕ, ◌+◌, ◌*◌, ◌<◌, �
 ghost use Rattle.band_level.specs.Values.{cells};
 ghost use Rattle.band_level.specs.Holding.{HasSpectra, held_value};
 ghost use Rattle.band_level.specs.Ranges.{FormatInRange};
-ghost use Rattle.band_level.specs.Rows.{HasBounds, HasMoments, MomentsLong};
+ghost use Rattle.band_level.specs.Rows.{HasBounds, HasMoments, AreLong};
 ghost use Rattle.band_level.specs.Columns.{AddsFar, AreBelow, AreSmall, AreTotals, HoldsFar, LosesFar, far_part};
 
 use crate::cells::{CellBounds, CellMoments};
 use crate::format::Format;
 use crate::held::Held;
 
-// A value beyond the bounds; else 0.
+// `y` for a value beyond the bounds; else 0.
 #[inline(always)]
-fn far(low: u32, high: u32, x: u32) -> u32
-    ensures far { result ≡ far_part low high x x }
-    ensures most { result ≤ x }
+fn far(low: u32, high: u32, x: u32, y: u32) -> u32
+    ensures far { result ≡ far_part low high x y }
+    ensures most { result ≤ y }
 {
-    if low <= x && x <= high { 0 } else { x }
-}
-
-// 1 for a value beyond the bounds; else 0.
-#[inline(always)]
-fn one(low: u32, high: u32, x: u32) -> u32
-    ensures one { result ≡ far_part low high x 1 }
-    ensures most { result ≤ 1 }
-{
-    if low <= x && x <= high { 0 } else { 1 }
+    if low <= x && x <= high { 0 } else { y }
 }
 
 // Whether a value of a row lies beyond the bounds of its cell.
@@ -39,7 +30,7 @@ fn any_far(row: &[u32], lows: &[u32], highs: &[u32]) -> bool
 {
     let mut count = 0;
     for i in 0..row.len() {
-        count += one(lows[i], highs[i], row[i]);
+        count += far(lows[i], highs[i], row[i], 1);
     }
     count != 0
 }
@@ -59,8 +50,8 @@ fn keep_far(row: &mut [u32], lows: &[u32], highs: &[u32], counts: &mut [u32])
     ensures fewer { (i : ℕ) → slice_index row.new i ≤ slice_index row.old i }
 {
     for i in 0..row.len() {
-        counts[i] += one(lows[i], highs[i], row[i]);
-        row[i] = far(lows[i], highs[i], row[i]);
+        counts[i] += far(lows[i], highs[i], row[i], 1);
+        row[i] = far(lows[i], highs[i], row[i], row[i]);
     }
 }
 
@@ -112,7 +103,7 @@ fn add_far(
     requires lows { length lows.now ≡ length row.old }
     requires highs { length highs.now ≡ length row.old }
     requires few { length row.old ≤ 8192 }
-    requires sums { MomentsLong (length row.old) counts.old totals.old squares.old }
+    requires sums { AreLong (length row.old) counts.old totals.old squares.old }
     requires values { (i : ℕ) → slice_index row.old i ≤ 4194303 }
     requires small { AreSmall 1048575 counts.old totals.old squares.old }
     ensures adds { AddsFar lows.now highs.now row.old counts.old totals.old squares.old
@@ -125,23 +116,6 @@ fn add_far(
         add_totals(row, totals);
         add_squares(row, squares);
     }
-}
-
-// Adds all values of a row to the sums.
-fn add_row(row: &[u32], totals: &mut [u64], squares: &mut [u64])
-    requires totals { length totals.old ≡ length row.now }
-    requires squares { length squares.old ≡ length row.now }
-    requires values { (i : ℕ) → slice_index row.now i ≤ 4194303 }
-    requires small { AreBelow 1048575 totals.old squares.old }
-    ensures totals { (i : ℕ) → i < length row.now → slice_index totals.new i
-        ≡ slice_index totals.old i + slice_index row.now i }
-    ensures squares { (i : ℕ) → i < length row.now → slice_index squares.new i
-        ≡ slice_index squares.old i + slice_index row.now i * slice_index row.now i }
-    ensures small { (n : ℕ) → AreBelow n totals.old squares.old
-        → AreBelow (n + 1) totals.new squares.new }
-{
-    add_totals(row, totals);
-    add_squares(row, squares);
 }
 
 /// Makes the sums of the first `count` spectra. The row is working space.
@@ -169,7 +143,8 @@ pub fn add_up(
     squares.fill(0);
     for t in 0..count {
         held.read(row, format, t);
-        add_row(row, totals, squares);
+        add_totals(row, totals);
+        add_squares(row, squares);
     }
 }
 

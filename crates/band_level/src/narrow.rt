@@ -1,7 +1,7 @@
 // Scales of 32 bits.
 ghost use Rattle.std.specs.Prelude.{◌≡◌, ℕ, ◌+◌, ◌*◌, ◌^◌, ◌<◌, ◌≤◌, ◌≢◌, true, length, slice_index};
 ghost use Rattle.band_level.specs.Scales.{unit, most_gain};
-ghost use Rattle.band_level.specs.Rows.{HasNarrow, HasScales, NarrowAt, NarrowLong, Narrows};
+ghost use Rattle.band_level.specs.Rows.{HasNarrow, HasScales, NarrowAt, AreLong, Narrows};
 
 use crate::cells::{CellScales, NarrowScales};
 use crate::scale::{Scale, UNIT};
@@ -35,7 +35,7 @@ fn set_narrow(
     requires base { scale.base ≤ 68719476736 }
     requires most { most ≤ 4194303 }
     requires place { i < length gains.old }
-    requires long { NarrowLong (length gains.old) gains.old bases.old lifts.old }
+    requires long { AreLong (length gains.old) gains.old bases.old lifts.old }
     ensures few { result ≤ 1 }
     ensures here { result ≡ 0 → NarrowAt most scale.gain scale.base scale.lift
         (slice_index gains.new i) (slice_index bases.new i) (slice_index lifts.new i) }

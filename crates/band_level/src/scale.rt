@@ -3,8 +3,7 @@ ghost use Rattle.std.specs.Prelude.{◌≡◌, ◌+◌, ◌*◌, ◌^◌, ◌<�
 ghost use Rattle.band_level.specs.Moments.{Moments, spread, is_near};
 ghost use Rattle.band_level.specs.Scales.{root, unit, most_gain, gain_for, scale_for, scale_of};
 ghost use Rattle.band_level.specs.Ranges.{PlanInRange};
-ghost use Rattle.band_level.specs.Sizes.{MomentsInRange, IsScaleOf, moments_of};
-ghost use Rattle.band_level.specs.Columns.{is_between};
+ghost use Rattle.band_level.specs.Columns.{MomentsInRange, IsScaleOf, moments_of, is_between};
 
 use crate::plan::Plan;
 

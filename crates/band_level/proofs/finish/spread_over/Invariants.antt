@@ -1,4 +1,4 @@
-use Rattle.std.proofs.Common.{ℕ, ◌≡◌, ◌<◌, ◌≤◌, length, slice_index}
+use Rattle.std.proofs.Common.{◌≡◌, ◌<◌}
 use Rattle.band_level.specs.Levelled.{marks_cell}
 use Rattle.band_level.specs.Finished.{kept_before}
 use Rattle.band_level.specs.Shares.{left_over, spread_level}
@@ -11,5 +11,4 @@ invariant-loop-i l = record {
   left : l.left ≡ left_over l.spread (kept_before (marks_cell l.masked l.polarisations) l.i);
   levels : Fills l.initial.levels l.levels l.i
       (spread_level l.spread (marks_cell l.masked l.polarisations) l.initial.levels);
-  small : (i : ℕ) → i < length l.initial.levels → slice_index l.levels i ≤ l.spread.most;
 }

@@ -2,15 +2,17 @@ use Rattle.std.proofs.Common.{◌≡◌, ℕ, ◌+◌, ◌≤◌, inl, inr, subs
 use Rattle.std.proofs.lemmas.Bool.{cases_lt}
 use Rattle.band_level.specs.Holding.{held_value}
 use Rattle.band_level.proofs.Values.{most_small}
-use Rattle.band_level.proofs.Columns.{totals_more}
+use Rattle.band_level.proofs.Columns.{below_more, totals_more}
 use Rattle.band_level.proofs.Puts.{has_fewer}
 use Rattle.band_level.proofs.moments.add_up.Goals as goal
 
 pub loop-t-preserved : goal.loop-t-preserved
 loop-t-preserved c = record {
-  sums = totals_more _ _ c.loop-t.t c.read.new.row _ _ _ _ c.loop-t.invariant.sums c.add_row.ensures.totals
-      c.add_row.ensures.squares (omega arith) c.read.ensures.values;
-  small = c.add_row.ensures.small c.loop-t.t c.loop-t.invariant.small;
+  sums = totals_more _ _ c.loop-t.t c.read.new.row _ _ _ _ c.loop-t.invariant.sums c.add_totals.ensures
+      c.add_squares.ensures (omega arith) c.read.ensures.values;
+  small = below_more c.loop-t.t c.read.new.row _ _ _ _ c.loop-t.invariant.small
+      (λ i. omega (arith, c.read.ensures.small i, most_small c.args.format c.requires.format)) (omega arith) (omega arith)
+      c.add_totals.ensures c.add_squares.ensures;
   values = λ t i before here. elim (cases_lt t c.loop-t.t) [
     | inl earlier ↦ c.loop-t.invariant.values t i earlier here
     | inr now ↦

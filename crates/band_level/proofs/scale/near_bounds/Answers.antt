@@ -1,7 +1,7 @@
 use Rattle.std.proofs.Common.{◌∙◌, ap, arith}
 use Rattle.std.specs.Int.{div_ceil}
-use Rattle.band_level.specs.Sizes.{moments_of}
-use Rattle.band_level.proofs.Roots.{near_is}
+use Rattle.band_level.specs.Columns.{moments_of}
+use Rattle.band_level.proofs.Scales.{near_is}
 use Rattle.band_level.proofs.scale.near_bounds.Goals as goal
 
 pub returns : goal.returns

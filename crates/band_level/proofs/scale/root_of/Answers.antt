@@ -1,4 +1,4 @@
-use Rattle.band_level.proofs.Roots.{root_is}
+use Rattle.band_level.proofs.Scales.{root_is}
 use Rattle.band_level.proofs.scale.root_of.Goals as goal
 
 pub returns-clause-root : goal.returns-clause-root

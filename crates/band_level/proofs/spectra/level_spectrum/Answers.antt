@@ -1,10 +1,8 @@
-use Rattle.std.proofs.Common.{◌≡◌, ℕ, List, ◌+◌, ◌*◌, ◌/◌, length, take, slice_index, ◌∙◌, sym, ap, subst, arith}
+use Rattle.std.proofs.Common.{◌≡◌, ◌+◌, ◌*◌, ◌/◌, length, take, ◌∙◌, ap, arith}
 use Rattle.band_level.specs.Values.{cells}
 use Rattle.band_level.specs.Finished.{finished}
 use Rattle.band_level.specs.Levelled.{marks_cell}
-use Rattle.band_level.specs.Rows.{NarrowAt}
 use Rattle.band_level.specs.Sound.{task_in}
-use Rattle.band_level.specs.Spectra.{LevelsSpectra, written_bytes}
 use Rattle.band_level.proofs.SpectraLevelled.{one_levelled}
 use Rattle.band_level.proofs.Written.{written}
 use Rattle.band_level.proofs.spectra.level_spectrum.Goals as goal
@@ -21,25 +19,15 @@ returns-clause-levels c =
     let long : cells k.format ≡ length c.finish_row.new.levels = omega arith in
     let fractions = written c.level_row.new.fractions old.fractions.items old.fractions.len
     (c.level_row.auto.fractions ∙ c.as_mut_slice.ensures.len) in
-    let before = take c.args.at c.args.out.now in
-    let after = take (c.args.at + written_bytes k.format k.plan) c.write_levels.new.out in
-    subst (λ (xs : List ℕ). LevelsSpectra k c.args.held.now s.gains.items s.bases.items s.lifts.items c.args.t 1
-    old.fractions.items xs before after) (sym fractions)
-    (subst (λ (xs : List ℕ). LevelsSpectra k c.args.held.now s.gains.items s.bases.items s.lifts.items c.args.t 1
-    xs c.level_row.new.fractions before after) c.as_mut_slice.ensures.value
+    rw (fractions, ← c.as_mut_slice.ensures.value)
     (one_levelled k c.args.held.now _ _ _ c.read.new.row c.level_row.new.levels c.finish_row.new.levels _ _ _ _
     c.args.t (omega arith) (omega arith) c.level_row.ensures.levels c.read.ensures.values
     (c.finish_row.ensures.levels
     ∙ ap (λ ms. finished k.plan (marks_cell ms k.format.polarisations) c.level_row.new.levels) c.as_slice.ensures.value)
-    (ap (λ n. take (c.args.at + n * (k.plan.bits / 8)) c.write_levels.new.out) long ∙ c.write_levels.ensures)))
+    (ap (λ n. take (c.args.at + n * (k.plan.bits / 8)) c.write_levels.new.out) long ∙ c.write_levels.ensures))
 
 pub level_row-requires-clause-narrow : goal.level_row-requires-clause-narrow
-level_row-requires-clause-narrow c = λ yes i lt.
-    let s = c.args.scales.now in
-    let n = c.args.rows.now.narrow in
+level_row-requires-clause-narrow c fits i lt =
     let row : length c.as_mut_slice-row.result.now ≡ cells c.args.task.now.format =
     ap length c.as_mut_slice-row.ensures.value ∙ c.requires.rows.rows.row_long in
-    subst (λ (m : ℕ). NarrowAt m (slice_index s.gains.items i) (slice_index s.bases.items i)
-    (slice_index s.lifts.items i) (slice_index n.gains.items i) (slice_index n.bases.items i)
-    (slice_index n.lifts.items i)) (sym c.most_value.ensures.value)
-    (c.requires.narrow yes i (omega arith))
+    rw c.most_value.ensures.value (c.requires.narrow fits i (omega arith))

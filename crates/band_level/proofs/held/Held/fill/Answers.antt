@@ -21,9 +21,7 @@ invariant_of-self c =
       spectrum_is = inv.spectrum_is;
       room_is = inv.room_is;
       filled_in = omega (arith, long, bytes);
-      inside = has_room f.format f.spectra f.spectrum f.room f.count (length f.bytes.items) f.filled
-          (length (sums_of f.sums)) inv.spectrum_is inv.room_is inv.kind (omega arith) c.min-count.result
-          (omega (arith, bytes));
+      inside = has_room inv (omega arith) c.min-count.result (omega (arith, bytes));
       row_long = inv.row_long;
       small = inv.small;
       narrow = inv.narrow;

@@ -3,7 +3,6 @@ use Rattle.band_level.specs.declared.format.Format.{Format}
 use Rattle.band_level.specs.Values.{cells, spectrum_bytes, cell_value, most_value}
 use Rattle.band_level.specs.Holding.{Holding, held_bytes, sums_of}
 use Rattle.band_level.proofs.Puts.{behind, has_sums, place_fits, read_small, value_behind, value_summed}
-use Rattle.band_level.proofs.Standing.{some_bytes}
 use Rattle.band_level.proofs.held.Held.read.Goals as goal
 
 pub returns-then-t-self-clause-values : goal.returns-then-t-self-clause-values
@@ -31,9 +30,7 @@ overflow_mul-t c =
     let same = ap (λ (o : Holding). o.format) c.self.view_is ∙ c.requires.held.same in
     let wide : length c.args.row.now ≡ cells f.format = c.requires.cells ∙ ap cells (sym same) in
     let at : c.args.t * length c.args.row.now ≡ c.args.t * cells f.format = ap (λ n. c.args.t * n) wide in
-    let inside = inv.inside in
-    let fits = place_fits f.format c.args.t f.count f.spectrum f.room inv.in_range inv.spectrum_is (omega arith)
-    (omega arith) in
+    let fits = place_fits inv c.args.t (omega arith) in
     record { fits = omega arith }
 
 pub read-requires : goal.read-requires
@@ -44,9 +41,7 @@ read-requires c =
     let wide : length c.args.row.now ≡ cells f.format = c.requires.cells ∙ ap cells (sym same) in
     record {
       inside = subst (λ (n : ℕ). c.args.t * n + n ≤ length (sums_of f.sums)) (sym wide)
-          (has_sums f.format f.spectra f.count (length f.bytes.items) (length (sums_of f.sums)) c.args.t f.spectrum
-          f.room f.filled inv.kind inv.spectrum_is
-          (omega (arith, inv.spectrum_is, some_bytes f.format inv.in_range)) inv.room_is inv.inside c.if-t-self.true);
+          (has_sums inv c.args.t c.if-t-self.true);
     }
 
 pub read_row-requires-clause-inside : goal.read_row-requires-clause-inside

@@ -1,7 +1,7 @@
 use Rattle.std.proofs.Common.{◌/◌, ◌∙◌, ap, arith}
 use Rattle.band_level.specs.Values.{spectrum_bytes}
 use Rattle.band_level.specs.Holding.{Holding, held_bytes}
-use Rattle.band_level.proofs.Standing.{some_bytes}
+use Rattle.band_level.proofs.Values.{some_bytes}
 use Rattle.band_level.proofs.held.Held.whole_spectra.Goals as goal
 
 pub returns-clause-count : goal.returns-clause-count

@@ -1,10 +1,10 @@
-use Rattle.std.proofs.Common.{◌≡◌, ℕ, refl, ◌*◌, ◌/◌, ◌<◌, ◌≤◌, ◌^◌, inl, inr, max, length, ◌∙◌, ap, arith}
+use Rattle.std.proofs.Common.{refl, ◌*◌, ◌/◌, ◌≤◌, inl, inr, max, length, ◌∙◌, ap, arith}
 use Rattle.std.proofs.Math.Nat.{mul-le-mul}
 use Rattle.band_level.specs.declared.format.Format.{Format}
 use Rattle.band_level.specs.declared.plan.Plan.{Plan}
 use Rattle.band_level.specs.Ranges.{FormatInRange, PlanInRange}
 use Rattle.band_level.specs.Spectra.{written_bytes}
-use Rattle.band_level.proofs.Ending.{starts}
+use Rattle.band_level.proofs.Giving.{starts}
 use Rattle.band_level.proofs.Written.{zero_long, piece_most, piece_least}
 use Rattle.band_level.proofs.leveller.Leveller.open.Goals as goal
 
@@ -21,26 +21,17 @@ written_most f p range plan =
     ] in
     mul-le-mul (mul-le-mul range.most_channels pols) width
 
-piece_fits : (f : Format) (p : Plan) (m : ℕ) → FormatInRange f → PlanInRange p
-    → m ≡ max (262144 / written_bytes f p) 1 → m * written_bytes f p < 2 ^ 64
-piece_fits f p m range plan is =
-    let same : m * written_bytes f p ≡ max (262144 / written_bytes f p) 1 * written_bytes f p =
-    ap (λ n. n * written_bytes f p) is in
-    omega (arith, piece_most 262144 (written_bytes f p), written_most f p range plan)
-
 pub overflow_mul-max : goal.overflow_mul-max
-overflow_mul-max c = record {
-  fits = piece_fits c.args.format c.args.plan c.max.result c.requires.format c.requires.plan c.max.ensures;
-}
+overflow_mul-max c =
+    let written = written_bytes c.args.format c.args.plan in
+    let most = written_most c.args.format c.args.plan c.requires.format c.requires.plan in
+    record { fits = rw c.max.ensures (omega (arith, piece_most 262144 written, most)) }
 
 pub invariant_of-result : goal.invariant_of-result
 invariant_of-result c =
     let some = c.requires.plan.some_spectra in
-    let least : written_bytes c.args.format c.args.plan ≤ c.max.result * written_bytes c.args.format c.args.plan =
-    let same : c.max.result * written_bytes c.args.format c.args.plan
-    ≡ max (262144 / written_bytes c.args.format c.args.plan) 1 * written_bytes c.args.format c.args.plan =
-    ap (λ m. m * written_bytes c.args.format c.args.plan) c.max.ensures in
-    omega (arith, piece_least 262144 (written_bytes c.args.format c.args.plan)) in
+    let written = written_bytes c.args.format c.args.plan in
+    let least : written ≤ c.max.result * written = rw c.max.ensures (piece_least 262144 written) in
     let piece = zero_long c.in_ok-bytes.field-0.items _ c.in_ok-bytes.ensures in
     record {
       task = record {
