@@ -15,6 +15,7 @@ COMMANDS = {
     "psr_fits": "fits.psr_fits",
     "psr_hunt": "hunt.psr_hunt",
     "psr_look": "look.psr_look",
+    "psr_pieces": "side_by_side.psr_pieces",
     "psr_plan": "cluster.plan",
     "psr_plot": "plot.psr_plot",
     "psr_series": "series.psr_series",
