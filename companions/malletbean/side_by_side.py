@@ -1,17 +1,17 @@
 """`psr_pieces`: a search on the cores of this machine, by a psr_part for each stretch of the time.
 
-Each psr_part gets its piece of the files through a pipe, into which the pages of the files go without a copy. What they
-print is kept until all have ended well: then their lines follow one another as those of one search.
+Each psr_part gets its piece of the files through a pipe. What they print is kept until all have ended well: then their
+lines follow one another as those of one search.
 """
 from __future__ import annotations
 
 import _thread
-import fcntl
 import os
-from errno import EACCES, EINVAL, ENOENT, ENOEXEC
+from errno import EACCES, ENOENT, ENOEXEC
 
 from .asked import asked_by, judge, program_at
 from .ending import signals
+from .feeding import pour, widen, write_all
 from .files import Files
 from .headers import header_text
 from .pieces import cuts, stretches
@@ -31,8 +31,8 @@ TIMES_LEAD = 2
 MANY, BEYOND = 9, 13
 # bytes of a block of psr_part, unless --size is given: smaller ones stay in the caches of a core
 SIZE = 2**16
-# bytes that are worked on at a time: of a pipe, of a file that can't be spliced, and of lines
-PIPE, COPIED, LINES = 2**20, 2**18, 2**20
+# bytes of lines that are worked on at a time
+LINES = 2**20
 USAGE = "psr_pieces [--pieces N] --mean V --sd V [OPTION V ..] FILE [FILE ..]"
 HELP = f"""usage: {USAGE}
 
@@ -157,10 +157,7 @@ class Search:
         place = os.memfd_create("check", 0)
         os.write(place, stretch.check.encode())
         source, into = os.pipe()
-        try:
-            fcntl.fcntl(into, fcntl.F_SETPIPE_SZ, PIPE)
-        except OSError:
-            pass  # so many large pipes are not allowed, and a small one does
+        widen(into)
         words = [self.program, stretch.stop, f"/dev/fd/{place}", *self.words, "/dev/stdin"]
         ends = [(os.POSIX_SPAWN_DUP2, end, number) for number, end in enumerate((source, piece.output, piece.notes))]
         try:
@@ -246,36 +243,11 @@ class Search:
 def feed(piece: Piece, parts: Sequence[tuple[str, int, int]], into: int) -> None:
     """Gives a psr_part the bytes of its piece. What can't be read ends it early, and is the fault of the piece."""
     try:
-        for path, skipped, count in parts:
-            try:
-                fill(into, path, skipped, count)
-            except BrokenPipeError:
-                break  # psr_part has ended, and says why
-            except OSError as fault:
-                piece.fault = unread(path, fault)
-                break
+        fault = pour(into, parts)
+        if fault is not None:
+            piece.fault = unread(*fault)
     finally:
         os.close(into)
-
-
-def fill(into: int, path: str, skipped: int, count: int) -> None:
-    """Moves bytes of a file into a pipe: so many behind the first ones, or those that there are."""
-    source = os.open(path, os.O_RDONLY)
-    try:
-        while count > 0:
-            try:
-                done = os.splice(source, into, min(count, PIPE), offset_src=skipped)
-            except (OSError, AttributeError) as fault:
-                # not all file systems can do it
-                if getattr(fault, "errno", EINVAL) != EINVAL:
-                    raise
-                done = write_all(into, os.pread(source, min(count, COPIED), skipped))
-            if done == 0:
-                break
-            skipped += done
-            count -= done
-    finally:
-        os.close(source)
 
 
 def unnamed_file() -> int:
@@ -317,11 +289,3 @@ def moved_lines(lines: bytes, first: int) -> list[bytes]:
             after = b"PULSE %d " % (int(before) + first)
         found.append(after + line[len(before):])
     return found
-
-
-def write_all(into: int, some: bytes) -> int:
-    """Writes bytes, and answers how many they are."""
-    rest = memoryview(some)
-    while rest:
-        rest = rest[os.write(into, rest):]
-    return len(some)

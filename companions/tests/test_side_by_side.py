@@ -17,7 +17,8 @@ from conftest import HERE
 from malletbean import side_by_side
 from malletbean.asked import asked_by
 from malletbean.ending import run
-from malletbean.side_by_side import count_of, fill, moved, psr_pieces
+from malletbean.feeding import fill
+from malletbean.side_by_side import count_of, moved, psr_pieces
 from test_pieces import parted
 
 SEARCH = ["--mean=16", "--sd=2.828", "--snr=8", "--max-delay=128"]
