@@ -58,6 +58,8 @@ def asked_by(words: Sequence[str], usage: str, own: dict[str, int]) -> Asked:
             if not left:
                 raise Refusal(WORDS, f"{word} has no value")
             value = left.pop(0)
+            if value.startswith("-") and value != "-":
+                raise Refusal(WORDS, f"a value that begins with - is joined to its option, as {word}={value}")
         add_option(asked, name, value)
     if not asked.files:
         raise Refusal(WORDS, usage)

@@ -91,5 +91,6 @@ class StoppedBySignals:
 
 def say(name: str, status: int, line: str) -> int:
     """Says a line on standard error, and answers the status."""
-    print(f"{name}: {line}", file=sys.stderr)
+    if sys.stderr is not None:
+        print(f"{name}: {line}", file=sys.stderr)
     return status

@@ -19,7 +19,7 @@ from .refusal import MEMORY, MORE, OUTPUT, READ, TEXT, WORDS, Refusal, unread
 
 TYPE_CHECKING = False
 if TYPE_CHECKING:
-    from collections.abc import Sequence
+    from collections.abc import Iterator, Sequence
 
     from .asked import Asked
     from .pieces import Stretch
@@ -52,6 +52,7 @@ def psr_pieces(words: Sequence[str]) -> None:
         return
     asked = asked_by(words, f"arguments refused: {USAGE}", {"pieces": 0})
     check(asked)
+    open_standard_files()
     program = program_at("psr_part")
     files = files_of(program, asked)
     cores = len(os.sched_getaffinity(0))
@@ -116,8 +117,8 @@ class Piece:
         self.output = self.notes = -1
         # why its bytes could not be read
         self.fault: Refusal | None = None
-        # its lines, once it has ended well
-        self.lines: list[bytes] = []
+        # its lines, once it has ended well, as it counts spectra
+        self.lines = b""
 
 
 class Search:
@@ -190,7 +191,7 @@ class Search:
         if self.count > self.most:
             # nothing will be printed
             for one in self.pieces:
-                one.lines = []
+                one.lines = b""
 
     def take_lines(self, piece: Piece, text: bytes) -> int:
         """Takes the lines of a piece, and answers how many they are."""
@@ -203,8 +204,10 @@ class Search:
             if until is not None or self.spectra < self.files.spectra:
                 raise self.shorter
         elif until is None or last != b"CHECK %d %d\n" % (until - first, count):
+            count = -1
+        piece.lines = text[:begin]
+        if piece.lines.count(b"PULSE ") != count:
             raise Refusal(TEXT, f"{self.program} printed no whole part")
-        piece.lines = moved(text[:begin], first)
         return count
 
     @property
@@ -235,7 +238,7 @@ class Search:
     def write(self, into: int) -> None:
         """Writes the lines of all pieces, and the last one."""
         for piece in self.pieces:
-            for lines in piece.lines:
+            for lines in moved(piece.lines, piece.stretch.first):
                 write_all(into, lines)
         write_all(into, b"END %d 0 %d\n" % (self.count, self.spectra))
 
@@ -248,6 +251,15 @@ def feed(piece: Piece, parts: Sequence[tuple[str, int, int]], into: int) -> None
             piece.fault = unread(*fault)
     finally:
         os.close(into)
+
+
+def open_standard_files() -> None:
+    """Lets no other file take the place of a standard one that is closed. What is written there fails."""
+    for number in range(3):
+        try:
+            os.fstat(number)
+        except OSError:
+            os.open(os.devnull, os.O_RDONLY)
 
 
 def unnamed_file() -> int:
@@ -270,14 +282,13 @@ def content(file: int) -> bytes:
     return found
 
 
-def moved(lines: bytes, first: int) -> list[bytes]:
+def moved(lines: bytes, first: int) -> Iterator[bytes]:
     """PULSE lines that count from a spectrum, as lines that count from the first one of the observation."""
-    found, begin = [], 0
+    begin = 0
     while begin < len(lines):
         until = lines.find(b"\n", begin + LINES) + 1 or len(lines)
-        found.append(b"".join(moved_lines(lines[begin:until], first)) if first else lines[begin:until])
+        yield b"".join(moved_lines(lines[begin:until], first)) if first else lines[begin:until]
         begin = until
-    return found
 
 
 def moved_lines(lines: bytes, first: int) -> list[bytes]:

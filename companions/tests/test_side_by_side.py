@@ -85,7 +85,7 @@ def test_lines_are_moved(monkeypatch: pytest.MonkeyPatch) -> None:
         monkeypatch.setattr(side_by_side, "LINES", at_a_time)
         assert b"".join(moved(b"".join(lines), 0)) == b"".join(lines)
         assert b"".join(moved(b"".join(lines), 12345)) == b"".join(later)
-    assert moved(b"", 5) == []
+    assert list(moved(b"", 5)) == []
 
 
 def test_a_million_lines_are_moved_soon() -> None:
@@ -200,6 +200,15 @@ def test_a_killed_piece_ends_all(stand_in: Path, tmp_path: Path) -> None:
     assert not any(os.path.exists(f"/proc/{one}") for one in numbers)
 
 
+@pytest.mark.parametrize("closed", ["<&-", ">&-", "2>&-", "<&- >&- 2>&-"])
+def test_standard_files_that_are_closed(stand_in: Path, closed: str) -> None:
+    words = [sys.executable, "-S", str(HERE.parent / "psr_pieces"), *SEARCH, "--pieces=3", str(stand_in)]
+    answer = subprocess.run(["bash", "-c", f'"$@" {closed}', "bash", *words], capture_output=True)
+    is_open = ">&-" not in closed.replace("2>&-", "")
+    assert answer.returncode == (0 if is_open else 10)
+    assert answer.stdout == (whole_text(stand_in) if is_open else b"")
+
+
 @pytest.mark.parametrize("words, status, line", [
     ([], 2, "arguments refused: psr_pieces [--pieces N] --mean"),
     (["--sd", "2", "FILE"], 2, "--mean is missing"),
@@ -211,6 +220,7 @@ def test_a_killed_piece_ends_all(stand_in: Path, tmp_path: Path) -> None:
     (["--mean=16", "--sd=2", "--shards=2", "FILE"], 2, "leave --shards out"),
     (["--mean=16", "--sd=2", "--hands", "3", "FILE"], 2, "leave --hands out"),
     (["--mean=16", "--sd=2", "-snr", "3", "FILE"], 2, "-snr is no option"),
+    (["--mean", "-0", "--sd=2", "FILE"], 2, "is joined to its option, as --mean=-0"),
     (["--mean=16", "--sd=2", "--nonsense=1", "FILE"], 2, "psr_part has no option --nonsense"),
     (["--mean=16", "--sd=2", "--nonsense=1", "/nowhere"], 2, "psr_part has no option --nonsense"),
     (["--mean=16", "--sd=2", "PIPE"], 2, "is a pipe or a device, which can't be divided"),
