@@ -47,6 +47,7 @@ tell_machine "$rounds"
 echo
 [ -z "$peer" ] || echo 'Behind each time stands its ratio to one thread of the peer.'
 echo 'Processor time of pieces is told to that of one thread.'
+echo
 echo -n '| Channels | Spectra | Delays to | Widths to | One thread | 4 pieces | 8 pieces'
 echo "${peer:+ | The peer by time, 16 bits} | Processor time of 4 | of 8 |"
 echo "|---|---|---|---|---|---|---${peer:+|---}|---|---|"
