@@ -9,17 +9,6 @@ set -eu
 . "$(dirname "$0")/common.bash"
 . "$(dirname "$0")/peers.bash"
 
-# channels, spectra, delays to, widths to
-shapes=(
-    '16 1048576 100 1'
-    '64 1048576 256 8'
-    '256 262144 512 8'
-    '1024 131072 1024 1'
-    '1024 131072 1024 32'
-    '2048 65536 2048 8'
-    '1024 65536 8192 8'
-    '4096 32768 8192 8'
-)
 several=('4 4' '4 5' '3 4' '7 8') # shards, hands
 first=one # whose output all others have to have
 [ -z "$peer" ] || first=peer
@@ -27,8 +16,7 @@ rows=()
 for shape in "${shapes[@]}"; do
     read -r channels spectra delays widths <<<"$shape"
     file=$folder/shape.dada
-    "$psr_make" --number 3 --nchan "$channels" --spectra "$spectra" --delay "$((delays < 512 ? delays : 512))" \
-        --period 4096 --height 1 "$file"
+    make_shape "$channels" "$spectra" "$delays" "$file"
     arguments=(--mean 16 --sd 2.828 --max-delay "$delays" --widths "$widths" --max-candidates 1000000 "$file")
     wall=() cpu_time=() text=()
     for ((round = 0; round < rounds; round++)); do

@@ -36,6 +36,10 @@ _malletbean() { # _malletbean COMMAND WORD PREVIOUS_WORD
             options='--dm --output --snr --widths --mask --clip --keep-bursts --cores --slurm --parallel --periods
                 --keep --dry-run' ;;
         psr_look) options='--megabytes --mask --channels' ;;
+        psr_pieces)
+            options='--pieces --mean --sd --snr --max-delay --min-delay --widths --fold-max --fold-min --fold-rows
+                --fold-step --max-candidates --max-bytes --file-size --shards --hands --buffers --size --chunk
+                --turns' ;;
         psr_plot) options='--obs --beam --mask --part --output --show --fold --next' ;;
         psr_series) options='--delay --output --fold --next --mask' ;;
         psr_table) options='--obs --beam --mask --part --output --folds --best' ;;
@@ -54,12 +58,14 @@ _malletbean() { # _malletbean COMMAND WORD PREVIOUS_WORD
             | psr_table:*:--output | psr_table:*:--folds)
             names=yes ;;
         psr_search:*:--widths | psr_mask:*:--widths | psr_part:*:--widths | psr_live:*:--widths | psr_beams:*:--widths \
-            | psr_plan:*:--widths)
+            | psr_pieces:*:--widths | psr_plan:*:--widths)
             values='1 2 4 8 16 32' names='' ;;
-        psr_search:*:--fold-rows | psr_mask:*:--fold-rows | psr_beams:*:--fold-rows | psr_plan:*:--fold-rows)
+        psr_search:*:--fold-rows | psr_mask:*:--fold-rows | psr_beams:*:--fold-rows | psr_pieces:*:--fold-rows | \
+            psr_plan:*:--fold-rows)
             values='1 2 3 4 5 6 7 8 9 10 11 12' names='' ;;
-        psr_search:*:--shards | psr_plan:*:--shards) values='1 2 3 4 5 6 7' names='' ;;
-        psr_search:*:--hands | psr_record:*:--hands | psr_plan:*:--hands) values='1 2 3 4 5 6 7 8 9' names='' ;;
+        psr_search:*:--shards | psr_pieces:*:--shards | psr_plan:*:--shards) values='1 2 3 4 5 6 7' names='' ;;
+        psr_search:*:--hands | psr_record:*:--hands | psr_pieces:*:--hands | psr_plan:*:--hands)
+            values='1 2 3 4 5 6 7 8 9' names='' ;;
         psr_mask:1:* | psr_level:*:--mask) values=none names='' ;;
         psr_part:2:* | psr_live:2:*) values=new ;;
         psr_beams:2:*) values='1 2 3 4 5 6' names='' ;;
@@ -75,5 +81,5 @@ _malletbean() { # _malletbean COMMAND WORD PREVIOUS_WORD
     mapfile -t COMPREPLY < <(compgen -W "$values" -- "$word"; [[ -z $names ]] || compgen -f -- "$word")
 }
 complete -o filenames -F _malletbean psr_search psr_mask psr_part psr_live psr_beams psr_record psr_level psr_make \
-    psr_demo ring_trace psr_cut psr_dada psr_fil psr_fits psr_hunt psr_look psr_plot psr_series psr_table psr_why \
-    psr_plan psr_join
+    psr_demo ring_trace psr_cut psr_dada psr_fil psr_fits psr_hunt psr_look psr_pieces psr_plot psr_series psr_table \
+    psr_why psr_plan psr_join

@@ -2,8 +2,8 @@
 # Tries cluster/ on this machine: cluster.sh [BINDIR], where BINDIR has psr_make, psr_search and psr_part; else those
 # last built here. An observation of 134 MB (1024 channels, 131072 spectra) is searched for pulses and folds at delays
 # 0 to 1024 by one search; by 8 jobs of a Slurm array; and by 8 jobs of GNU parallel. Then it is searched for pulses
-# alone, by 8 jobs on stretches of the time. The joined outputs are those of one search, byte for byte. Then what
-# fails: a job, a part that is missing or cut, and parts that don't belong together. A hunt by Slurm and by GNU parallel
+# alone, by psr_pieces, and by 8 jobs on stretches of the time. The outputs are those of one search, byte for byte. Then
+# what fails: a job, a part that is missing or cut, parts that don't belong together. A hunt by Slurm and GNU parallel
 # is that of this machine.
 # Slurm's daemons (slurmctld, slurmd, munged) run here for as long as this takes, with all that they write in a folder
 # of their own. As root, what is missing is installed (Debian's slurm-wlm, munge and parallel).
@@ -142,7 +142,13 @@ same 'parallel by time: status' $? 0
 whole_and_joined 'GNU parallel by time' 'time by parallel'
 echo "8 jobs of GNU parallel by time: $took"
 
-# Pieces of the time on the cores of this machine, without an engine.
+# Pieces of the time on the cores of this machine by one command, and by jobs without an engine.
+for pieces in '' 4 8; do
+    timed "$root/companions/psr_pieces" ${pieces:+--pieces "$pieces"} "${words[@]}" >joined
+    same "psr_pieces${pieces:+ --pieces $pieces}: status" $? 0
+    cmp joined whole >&2 || { echo "psr_pieces $pieces: the text is another" >&2; failed=1; }
+    echo "psr_pieces${pieces:+ --pieces $pieces} on $(nproc) processors: $took"
+done
 for pieces in 1 2 4 8; do
     "$plan" "$pieces pieces" "$pieces" --spectra 131072 "${words[@]}" >said
     timed xargs -d '\n' -P "$(nproc)" -I LINE bash -c LINE <"$pieces pieces/jobs"

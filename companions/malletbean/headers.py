@@ -2,17 +2,18 @@
 from __future__ import annotations
 
 import os
-import re
-from dataclasses import dataclass, replace
-from functools import cached_property
-from typing import BinaryIO
 
-import numpy as np
-
-from .arrays import Array
-from .masks import masked_channels
 from .number import scaled
 from .refusal import GAP, HEADER, READ, Refusal, opened, some_of
+
+# psr_pieces reads headers, and has to start soon: so what not every header needs is imported where it is needed
+TYPE_CHECKING = False
+if TYPE_CHECKING:
+    from typing import Any, BinaryIO
+
+    import numpy as np
+
+    from .arrays import Array
 
 LEAST_SIZE = 4096
 MOST_SIZE = 65536
@@ -23,8 +24,8 @@ OTHER_FORMS = (
     (0, b"SIMPLE  =", "a FITS file: psr_fits makes a DADA file of it, if it is a PSRFITS file in search mode"),
 )
 # the value of a line is its second word
-SECOND_WORD = re.compile(rb"\s*[^\s#]+\s+([^\s#]+)")
-UTC_FORM = re.compile(r"(\d{4}-\d\d-\d\d)-(\d\d:\d\d:\d\d)(\.\d{1,12})?")
+SECOND_WORD = rb"\s*[^\s#]+\s+([^\s#]+)"
+UTC_FORM = r"(\d{4}-\d\d-\d\d)-(\d\d:\d\d:\d\d)(\.\d{1,12})?"
 # each keyword with its decimals, and what it is where it is missing; they are judged in this order
 KEYWORDS: dict[str, tuple[int, int | None]] = {
     "NCHAN": (0, None),
@@ -51,43 +52,54 @@ IN_COMMON = {"channels": "NCHAN", "bits": "NBIT", "polarisations": "NPOL", "samp
              "width_hz": "BW", "is_falling": "BW"}
 
 
-@dataclass(frozen=True)
 class Header:
     """What a header says of its observation, how many bytes of data its file has, and which channels are left out."""
 
-    size: int
-    fields: dict[str, str]
-    channels: int
-    bits: int
-    polarisations: int
-    sample_ns: int
-    centre_hz: int
-    width_hz: int
-    is_falling: bool
-    offset: int
-    data_bytes: int
-    # counted from the highest frequency
-    masked: tuple[int, ...] = ()
+    def __init__(self, *, size: int, fields: dict[str, str], channels: int, bits: int, polarisations: int,
+                 sample_ns: int, centre_hz: int, width_hz: int, is_falling: bool, offset: int, data_bytes: int,
+                 masked: tuple[int, ...] = ()) -> None:
+        self.size = size
+        self.fields = fields
+        self.channels = channels
+        self.bits = bits
+        self.polarisations = polarisations
+        self.sample_ns = sample_ns
+        self.centre_hz = centre_hz
+        self.width_hz = width_hz
+        self.is_falling = is_falling
+        self.offset = offset
+        self.data_bytes = data_bytes
+        # counted from the highest frequency
+        self.masked = masked
+        self._edges_khz: tuple[int, ...] = ()
+
+    def changed(self, **values: Any) -> Header:
+        """The same header with other values."""
+        return Header(**{name: value for name, value in vars(self).items() if name[0] != "_"} | values)
 
     def without(self, mask: str) -> Header:
         """The same observation without the channels that a mask of `psr_mask` names."""
+        from .masks import masked_channels
         named = masked_channels(mask, self.channels)
         ordered = named if self.is_falling else self.channels - 1 - named
-        return replace(self, masked=tuple(sorted(ordered.tolist())))
+        return self.changed(masked=tuple(sorted(ordered.tolist())))
 
     @property
     def kept(self) -> Array:
         """The channels that are not left out, counted from the highest frequency."""
+        import numpy as np
         return np.setdiff1d(np.arange(self.channels), np.array(self.masked, int))
 
     @property
     def are_masked(self) -> Array:
         """Which channels are left out, the highest first."""
+        import numpy as np
         return np.isin(np.arange(self.channels), self.masked)
 
     @property
     def masked_in_file(self) -> Array:
         """The channels that are left out, counted in the order of the file."""
+        import numpy as np
         masked = np.array(self.masked, int)
         return masked if self.is_falling else self.channels - 1 - masked
 
@@ -106,13 +118,15 @@ class Header:
         """Seconds from one spectrum to the next."""
         return self.sample_ns * 1e-9
 
-    @cached_property
+    @property
     def edges_khz(self) -> tuple[int, ...]:
         """All edges in kHz, from the top of the band down."""
-        centre, width, channels = self.centre_hz, self.width_hz, self.channels
-        return tuple(edge_khz(centre, width, channels, number) for number in range(channels + 1))
+        if not self._edges_khz:
+            centre, width, channels = self.centre_hz, self.width_hz, self.channels
+            self._edges_khz = tuple(edge_khz(centre, width, channels, number) for number in range(channels + 1))
+        return self._edges_khz
 
-    @cached_property
+    @property
     def dispersion_span(self) -> int:
         """1 / (1 / foot^2 - 1 / top^2) in kHz^2, rounded down."""
         top, foot = self.edges_khz[0] ** 2, self.edges_khz[-1] ** 2
@@ -138,7 +152,10 @@ class Header:
 
         NaT where the header has no UTC_START of the usual form, or the time is none that numpy counts in nanoseconds.
         """
-        match = UTC_FORM.fullmatch(self.fields.get("UTC_START", ""))
+        import re
+
+        import numpy as np
+        match = re.fullmatch(UTC_FORM, self.fields.get("UTC_START", ""))
         if match is None:
             return np.datetime64("NaT", "ns")
         later = match[3].ljust(13, "0")[1:] if match[3] else self.fields.get("PICOSECONDS", "0")
@@ -227,7 +244,8 @@ def with_value(text: bytes, key: str, value: str) -> bytes:
 
 def overwritten(line: bytes, value: bytes) -> bytes:
     """A line of a header with another value, which is no longer than that of the line."""
-    match = SECOND_WORD.match(line)
+    import re
+    match = re.match(SECOND_WORD, line)
     assert match is not None
     return line[:match.start(1)] + value.ljust(len(match[1])) + line[match.end(1):]
 

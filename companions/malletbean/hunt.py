@@ -20,8 +20,10 @@ from operator import attrgetter
 
 import numpy as np
 
+from .asked import program_at
 from .bursts import bursts_of, freed, level_for_bursts
-from .cluster import program_at, scripts
+from .cluster import scripts
+from .ending import Stopped, say
 from .headers import Header
 from .hunt_folds import folds_planned
 from .hunt_input import (Look, companion, conversion, converted, converter_of, looked_at, planned_header)
@@ -34,7 +36,7 @@ from .manifest import NAME, VERSION, Command, Hunt, LevelFile, Observation, Prog
 from .number import scaled
 from .listing import write_candidates
 from .output import whole_file
-from .program import Stopped, Words, say
+from .program import Words
 from .refusal import MEMORY, OUTPUT, WORDS, Refusal, bytes_of
 from .report import write_report
 from .samples import Samples
@@ -335,7 +337,7 @@ class Running:
 def run_hunt(asked: argparse.Namespace, folder: str, hunt: Hunt, begun: float) -> None:
     """Runs what is not there yet, and says what was found."""
     head = Samples([os.path.join(folder, path) for path in hunt.observation.paths], hunt.mask).header
-    head = replace(head, data_bytes=hunt.observation.spectra * head.spectrum_bytes)
+    head = head.changed(data_bytes=hunt.observation.spectra * head.spectrum_bytes)
     running = Running(folder, hunt, head, asked.cores, not asked.keep_bursts)
     write_commands(folder, hunt, head)
     engine = engine_of(asked, folder)

@@ -170,12 +170,12 @@ def planned_header(converter: str, paths: Sequence[str], mask: str | None) -> Lo
             # what is cut out of the first file has its name
             line = re.sub(rf"{re.escape(folder)}/front(\.dada)?", paths[0].replace("\\", r"\\"), refusal.line)
             raise Refusal(refusal.status, line) from refusal
-        return replace(look, head=replace(look.head, data_bytes=spectra * look.head.spectrum_bytes))
+        return replace(look, head=look.head.changed(data_bytes=spectra * look.head.spectrum_bytes))
 
 
 def looked_at(samples: Samples, mask: str | None) -> Look:
     """A look at an observation: with this mask, or the one that stands out."""
-    head = replace(samples.header, data_bytes=samples.begins[-1])
+    head = samples.header.changed(data_bytes=samples.begins[-1])
     if samples.spectra < 2:
         raise Refusal(HEADER, f"{samples.paths[0]}: its data have {head.data_bytes} bytes, fewer than two spectra")
     form = form_of(samples)

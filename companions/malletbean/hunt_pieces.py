@@ -12,15 +12,17 @@ import shlex
 from collections.abc import Sequence
 from dataclasses import dataclass, replace
 
-from .cluster import program_at, scripts
+from .asked import program_at
+from .cluster import scripts
+from .files import Files
 from .headers import Header
 from .hunt_cost import search_seconds
 from .hunt_tasks import Task
+from .jobs import Job, jobs_by_time, write_checks, write_jobs
 from .manifest import Hunt, Raised, SearchPass
 from .number import scaled
-from .pieces import Job, Stretch, jobs_by_time, stretches, write_checks, write_jobs
+from .pieces import Stretch, stretches
 from .refusal import bytes_of
-from .samples import Samples
 
 # each core gets so many jobs; a job takes at most so many seconds, and its piece is at least so many times the lead
 JOBS_FOR_CORE, MOST_SECONDS, TIMES_LEAD = 4, 120.0, 8
@@ -109,16 +111,16 @@ def search_options(search: SearchPass, most: int) -> list[str]:
 
 def pass_jobs(folder: str, hunt: Hunt, search: SearchPass, parts: Sequence[Stretch]) -> list[Job]:
     """A job for each stretch of a pass."""
-    samples = Samples([os.path.join(folder, search.level)])
+    files = Files([os.path.join(folder, search.level)])
     return jobs_by_time(searches_at(folder, search), scripts(), program_at("psr_part"),
-                        search_options(search, most_lines(hunt)), samples, parts)
+                        search_options(search, most_lines(hunt)), files, parts)
 
 
 def fold_job(folder: str, search: SearchPass) -> Job:
     """The job of folds: only the first spectra, which are folded, are read."""
-    samples = Samples([os.path.join(folder, search.level)])
-    size = samples.header.size + min(search.spectra, folded_spectra(search)) * samples.header.spectrum_bytes
-    words = [os.path.join(scripts(), "part"), os.path.join(folder, search.output), "0", samples.paths[0], "0",
+    files = Files([os.path.join(folder, search.level)])
+    size = files.header.size + min(search.spectra, folded_spectra(search)) * files.header.spectrum_bytes
+    words = [os.path.join(scripts(), "part"), os.path.join(folder, search.output), "0", files.paths[0], "0",
              str(size), "--", program_at("psr_search"), *search_options(search, MOST_FOLDS),
              f"--fold-min={search.fold_min}", f"--fold-max={search.fold_max}", f"--fold-rows={search.fold_rows}",
              f"--fold-step={search.fold_step}", "/dev/stdin"]

@@ -73,8 +73,8 @@ class Range:
 def level_header(head: Header, average: int) -> Header:
     """The header of a level: values of 8 bits, and so many spectra averaged into one."""
     spectrum_bytes = head.channels * head.polarisations * LEVEL_BITS // 8
-    return replace(head, bits=LEVEL_BITS, sample_ns=head.sample_ns * average,
-                   data_bytes=head.spectra // average * spectrum_bytes)
+    return head.changed(bits=LEVEL_BITS, sample_ns=head.sample_ns * average,
+                        data_bytes=head.spectra // average * spectrum_bytes)
 
 
 def greatest_dm(head: Header) -> float:

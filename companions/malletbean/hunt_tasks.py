@@ -8,12 +8,13 @@ from dataclasses import dataclass, replace
 
 import numpy as np
 
-from .cluster import program_at, scripts
+from .asked import program_at
+from .cluster import scripts
 from .headers import Header
 from .hunt_cost import level_seconds
 from .hunt_plan import LEVEL_MEAN, LEVEL_MOST
+from .jobs import Job, write_jobs
 from .manifest import Hunt, LevelFile
-from .pieces import Job, write_jobs
 from .refusal import HEADER, Refusal, bytes_of
 from .samples import Samples
 

@@ -3,7 +3,8 @@ from __future__ import annotations
 
 import os
 import sys
-from importlib import import_module
+
+from .ending import run
 
 # the module of each command, and its function
 COMMANDS = {
@@ -14,6 +15,7 @@ COMMANDS = {
     "psr_fits": "fits.psr_fits",
     "psr_hunt": "hunt.psr_hunt",
     "psr_look": "look.psr_look",
+    "psr_pieces": "side_by_side.psr_pieces",
     "psr_plan": "cluster.plan",
     "psr_plot": "plot.psr_plot",
     "psr_series": "series.psr_series",
@@ -31,8 +33,8 @@ def main() -> int:
         return 2
     module, function = COMMANDS[name].split(".")
     try:
-        program = getattr(import_module(f"malletbean.{module}"), function)
-        run = import_module("malletbean.program").run
+        # `importlib` is not imported, since psr_pieces has to start soon
+        program = getattr(__import__(f"malletbean.{module}", fromlist=[function]), function)
     except ModuleNotFoundError as missing:
         package = (missing.name or "malletbean").split(".")[0]
         if package == "malletbean":

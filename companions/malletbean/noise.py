@@ -195,7 +195,7 @@ def measure_stream(stream: Stream) -> tuple[Header, Estimates | None, str]:
         if len(pieces) == 2 * PIECES and (number + 1) % in_piece == 0:
             pieces = [first + second for first, second in zip(pieces[::2], pieces[1::2])]
             in_piece *= 2
-    head = replace(head, data_bytes=stream.count)
+    head = head.changed(data_bytes=stream.count)
     return head, estimates(pieces, head.spectra) if head.spectra > 1 else None, form
 
 

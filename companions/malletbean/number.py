@@ -1,24 +1,30 @@
 """Numbers as the programs read them: an optional sign, digits, and optionally a point and digits; no exponent."""
 from __future__ import annotations
 
-import re
-from fractions import Fraction
+TYPE_CHECKING = False
+if TYPE_CHECKING:
+    from fractions import Fraction
 
-NUMBER = re.compile(r"([+-]?)([0-9]*)(?:\.([0-9]*))?")
 # more digits than any value that is taken has; the others would only make it greater
 ENOUGH_DIGITS = 40
 # more decimals than any value that is written needs
 ENOUGH_DECIMALS = 12
 
 
+def parts_of(text: str) -> tuple[str, str, str] | None:
+    """The sign of a number, the digits before the point and those behind it; None if it is no number."""
+    sign = text[:1] if text[:1] in ("+", "-") else ""
+    whole, _, fraction = text[len(sign):].partition(".")
+    digits = whole + fraction
+    return (sign, whole, fraction) if digits.isascii() and digits.isdigit() else None
+
+
 def scaled(text: str, decimals: int) -> int | None:
     """The number times ten to the power `decimals`, further decimals dropped towards zero; None if it is no number."""
-    match = NUMBER.fullmatch(text)
-    if match is None:
+    parts = parts_of(text)
+    if parts is None:
         return None
-    sign, whole, fraction = match[1], match[2], match[3] or ""
-    if not whole and not fraction:
-        return None
+    sign, whole, fraction = parts
     digits = whole.lstrip("0")[:ENOUGH_DIGITS] + fraction[:decimals].ljust(decimals, "0")
     value = int(digits or "0")
     return -value if sign == "-" else value
@@ -26,8 +32,8 @@ def scaled(text: str, decimals: int) -> int | None:
 
 def decimals_beyond(text: str, decimals: int) -> bool:
     """Whether a number has more decimals than so many, and one of the further ones is not 0."""
-    match = NUMBER.fullmatch(text)
-    return match is not None and bool((match[3] or "")[decimals:].strip("0"))
+    parts = parts_of(text)
+    return parts is not None and bool(parts[2][decimals:].strip("0"))
 
 
 def multiplied(text: str, factor: Fraction) -> str | None:
@@ -35,8 +41,8 @@ def multiplied(text: str, factor: Fraction) -> str | None:
 
     None if it is no number, or below 0.
     """
-    match = NUMBER.fullmatch(text)
-    decimals = min(len(match[3] or ""), ENOUGH_DECIMALS) if match else 0
+    parts = parts_of(text)
+    decimals = min(len(parts[2]), ENOUGH_DECIMALS) if parts else 0
     value = scaled(text, decimals)
     if value is None or value < 0:
         return None

@@ -1,26 +1,21 @@
-"""What the programs have in common: their words, and how they end."""
+"""What the programs have in common: their words."""
 from __future__ import annotations
 
 import argparse
-import io
 import os
-import signal
 import sys
-from collections.abc import Callable, Iterator, Sequence
-from contextlib import contextmanager
+from collections.abc import Sequence
 from difflib import get_close_matches
-from types import FrameType
 from typing import NoReturn
 
 from .candidates import check_fits
+from .ending import say
 from .headers import Header
 from .number import scaled
-from .refusal import MEMORY, OUTPUT, TEXT, WORDS, Refusal
+from .refusal import TEXT, WORDS, Refusal
 from .settings import SUFFIX, check_settings
 from .texts import Found, read
 
-# the signals that ask a program to end: of a scheduler, of a terminal that closes, and of Ctrl-C
-STOPS = (signal.SIGTERM, signal.SIGHUP, signal.SIGINT)
 # of so many parts with too many pulses it is said where they end
 MOST_NAMED = 8
 
@@ -42,71 +37,6 @@ class Words(argparse.ArgumentParser):
                 if near:
                     return f"there is no {given}: did you mean {near[0]}? "
         return ""
-
-
-def run(name: str, program: Callable[[Sequence[str]], None]) -> int:
-    """Runs a program over the words of the command, and answers its status."""
-    if isinstance(sys.stdout, io.TextIOWrapper):
-        # a name of a file need not be text
-        sys.stdout.reconfigure(errors="surrogateescape")
-    try:
-        with stopped_by_signals():
-            program(sys.argv[1:])
-            sys.stdout.flush()
-    except Stopped as stopped:
-        say(name, 0, f"stopped by {stopped.signal.name}{stopped.advice}")
-        # who waits for the program has to see that a signal ended it
-        signal.signal(stopped.signal, signal.SIG_DFL)
-        os.kill(os.getpid(), stopped.signal)
-        return 128 + stopped.signal
-    except Refusal as refusal:
-        return say(name, refusal.status, refusal.line)
-    except MemoryError:
-        return say(name, MEMORY, "no memory")
-    except BrokenPipeError:
-        os.dup2(os.open(os.devnull, os.O_WRONLY), sys.stdout.fileno())
-        return say(name, OUTPUT, "the output was closed")
-    except OSError as fault:
-        named = "" if fault.filename is None else f" {fault.filename}"
-        return say(name, OUTPUT, f"can't write{named}: {fault.strerror}")
-    return 0
-
-
-class Stopped(BaseException):
-    """A signal that asks the program to end."""
-
-    def __init__(self, number: int) -> None:
-        super().__init__(number)
-        self.signal = signal.Signals(number)
-        # what follows the line that says so
-        self.advice = ""
-
-
-@contextmanager
-def stopped_by_signals() -> Iterator[None]:
-    """Within it, the signals that ask a program to end raise `Stopped`, so that what is half written is removed."""
-    # nohup ignores SIGHUP, and a shell ignores SIGINT for jobs in the background
-    before = {number: signal.getsignal(number) for number in STOPS}
-    caught = [number for number in STOPS if before[number] != signal.SIG_IGN]
-
-    def stop(number: int, _: FrameType | None) -> None:
-        for caught_one in caught:
-            signal.signal(caught_one, signal.SIG_IGN)
-        raise Stopped(number)
-
-    for number in caught:
-        signal.signal(number, stop)
-    try:
-        yield
-    finally:
-        for number in caught:
-            signal.signal(number, before[number])
-
-
-def say(name: str, status: int, line: str) -> int:
-    """Says a line on standard error, and answers the status."""
-    print(f"{name}: {line}", file=sys.stderr)
-    return status
 
 
 def add_search_words(words: Words) -> None:

@@ -1,7 +1,9 @@
 """What a companion says where it can't do what was asked: one line and a status."""
 from __future__ import annotations
 
-from typing import BinaryIO
+TYPE_CHECKING = False
+if TYPE_CHECKING:
+    from typing import BinaryIO
 
 WORDS = 2
 HEADER = 3

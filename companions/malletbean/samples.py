@@ -6,7 +6,7 @@ from collections.abc import Sequence
 import numpy as np
 
 from .arrays import Array
-from .headers import Header, check_follows, header
+from .files import Files
 from .paths import delay_paths, fold_shifts
 from .refusal import READ, TEXT, Refusal
 
@@ -14,26 +14,12 @@ from .refusal import READ, TEXT, Refusal
 SAMPLES_AT_A_TIME = 2**24
 
 
-class Samples:
+class Samples(Files):
     """The samples of one observation in one or more files, which follow one another."""
 
     def __init__(self, paths: Sequence[str], mask: str = "none") -> None:
-        self.paths = list(paths)
-        self.headers = [header(path).without(mask) for path in self.paths]
-        self.begins = [0]
-        for number, (path, later) in enumerate(zip(self.paths, self.headers)):
-            check_follows(path, self.headers[0], later, number, self.begins[-1])
-            self.begins.append(self.begins[-1] + later.data_bytes)
-
-    @property
-    def header(self) -> Header:
-        """The header of the first file."""
-        return self.headers[0]
-
-    @property
-    def spectra(self) -> int:
-        """Whole spectra in all files."""
-        return self.begins[-1] // self.header.spectrum_bytes
+        super().__init__(paths)
+        self.headers = [head.without(mask) for head in self.headers]
 
     def read(self, first: int, count: int) -> Array:
         """So many spectra from one on, each a row, polarisations added, the highest channel first, masked ones 0."""

@@ -19,7 +19,7 @@ from malletbean import hunt, hunt_pieces, hunt_text
 from malletbean.cluster import scripts
 from malletbean.hunt import FAILED, psr_hunt
 from malletbean.manifest import SearchPass, read_manifest
-from malletbean.program import run
+from malletbean.ending import run
 
 PROGRAMS = ("psr_level", "psr_search", "psr_part")
 needs_search = pytest.mark.skipif(None in map(shutil.which, PROGRAMS), reason="psr_level, psr_search and psr_part are "

@@ -17,7 +17,7 @@ from malletbean import hunt
 from malletbean.hunt import psr_hunt
 from malletbean.hunt_input import converted, converter_of, masked_megahertz
 from malletbean.headers import header
-from malletbean.program import run
+from malletbean.ending import run
 from malletbean.refusal import Refusal
 
 needs_search = pytest.mark.skipif(shutil.which("psr_part") is None, reason="psr_part is not on the PATH")

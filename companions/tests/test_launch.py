@@ -15,6 +15,7 @@ def test_each_companion_is_a_command() -> None:
     texts = {path.name: path.read_text(encoding="ascii") for path in HERE.parent.glob("psr_*")
              if path.name != "psr_why"}
     assert set(texts) == {name for name in launch.COMMANDS if name not in ("plan", "psr_plan")}
+    assert "from malletbean.launch import main\n" in texts.pop("psr_pieces")
     assert len(set(texts.values())) == 1
 
 

@@ -16,7 +16,7 @@ from malletbean.output import new_file, whole_file
 WAITS = """
 import sys, time
 from malletbean.output import new_file, whole_file
-from malletbean.program import run
+from malletbean.ending import run
 
 def program(words):
     with {kind}(words[0]) as made:

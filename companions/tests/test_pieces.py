@@ -12,7 +12,7 @@ import pytest
 import made
 from malletbean.cluster import plan, scripts
 from malletbean.pieces import cuts, stretches
-from malletbean.program import run
+from malletbean.ending import run
 from malletbean.samples import Samples
 
 needs_search = pytest.mark.skipif(None in (shutil.which("psr_search"), shutil.which("psr_part")),

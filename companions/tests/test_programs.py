@@ -14,7 +14,7 @@ from malletbean.fil import psr_fil
 from malletbean.fits import psr_fits
 from malletbean.look import psr_look
 from malletbean.plot import psr_plot
-from malletbean.program import run
+from malletbean.ending import run
 from malletbean.series import psr_series
 from malletbean.table import psr_table
 
