@@ -19,13 +19,13 @@ use Rattle.search_engine.specs.Scope.{kept_by}
 use Rattle.subband_plan.specs.declared.nodes.Node.{Node}
 use Rattle.subband_plan.specs.NodeLaws.{AskedRowsAreThere}
 use Rattle.subband_plan.specs.Nodes.{split_of}
-use Rattle.channel_mask.specs.Counting.{AreCounts, IsCount, cells_in, marks_bank}
+use Rattle.channel_mask.specs.Counting.{AreCounts, IsCount, marks_bank, part_cells}
 
 -- ---- sums over spectra that are all alike
 
 module _ (edges : List ℕ) (mask : List Bool) where
   abbrev cells : ℕ → ℕ → ℕ → ℕ
-  cells lo hi d = cells_in edges mask lo hi d
+  cells lo hi d = part_cells edges mask lo hi d
 
   abbrev mark : ℕ → ℕ
   mark c = if kept_by mask c then 1 else 0
@@ -44,7 +44,7 @@ module _ (edges : List ℕ) (mask : List Bool) where
   -- so it doesn't matter where it ends
   ends_anywhere : (lo hi d u late : ℕ) → d + late ≤ u →
       node_sum (marks_bank mask) edges lo hi d u late ≡ cells lo hi d
-  unfolding cells_in
+  unfolding part_cells
   ends_anywhere lo hi d u late within = marks_sum lo hi d u late within ∙ sym (marks_sum lo hi d d 0 (omega arith))
 
   -- ---- lists of counts

@@ -14,12 +14,12 @@ marks_bank mask = record {
 }
 
 -- how many kept cells the path of delay d has in the channels from lo up to hi: its sum over such spectra
-unfoldable pub cells_in : List ℕ → List Bool → ℕ → ℕ → ℕ → ℕ
-cells_in edges mask lo hi d = node_sum (marks_bank mask) edges lo hi d d 0
+unfoldable pub part_cells : List ℕ → List Bool → ℕ → ℕ → ℕ → ℕ
+part_cells edges mask lo hi d = node_sum (marks_bank mask) edges lo hi d d 0
 
 -- a count of these
 pub record IsCount (edges : List ℕ) (mask : List Bool) (lo hi d count : ℕ) : Type 0 where
-  pub is : count ≡ cells_in edges mask lo hi d
+  pub is : count ≡ part_cells edges mask lo hi d
   pub few : count ≤ hi - lo + d
 
 -- the counts of the first n delays
