@@ -286,7 +286,8 @@ module _ {I : Type 0} {told : I → Told} {is_calm : I → Type 0} {faults : I �
       | inl fields ↦
           subst LeftAt (sym fields.1) (refused (Header r.beam (Fields fields.0)) (omega arith) (omega arith)
           (λ e. omega (arith, e)) (λ e. omega (arith, e)) (λ e. omega (arith, e))
-          (inr (subst (λ x. RefusesLaterAt (told_at told before) s r.beam x) fields.1 (later_refused stop (o, first, r)))))
+          (inr (subst (λ x. RefusesLaterAt (told_at told before) s r.beam x) fields.1
+          (later_refused stop (o, first, r)))))
       | inr gap ↦
           subst LeftAt (sym gap.1) (refused (Gap r.beam o.obs_offset gap.0) (omega arith) (omega arith)
           (λ e. omega (arith, e)) (λ e. omega (arith, e)) (λ e. omega (arith, e))

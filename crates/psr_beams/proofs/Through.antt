@@ -394,8 +394,8 @@ module _ {I : Type 0} {told : I → Told} {is_calm : I → Type 0} {faults : I �
 
       gap_ends : NoneStopsBy stop_at_data ends → (expected found : ℕ) (first : Stop)
           (r : StopsBy stop_at_header ends first) → LeftAt (Some (Gap r.beam expected found))
-      gap_ends none expected found first r = at_files run all same (Gap r.beam expected found) (omega arith) (omega arith)
-          (λ e. omega (arith, e)) (λ e. omega (arith, e)) (λ e. omega (arith, e)) (all_quiet none)
+      gap_ends none expected found first r = at_files run all same (Gap r.beam expected found) (omega arith)
+          (omega arith) (λ e. omega (arith, e)) (λ e. omega (arith, e)) (λ e. omega (arith, e)) (all_quiet none)
           (later_untold (Gap r.beam expected found) first r)
 
       is_first : (a first : Stop) → Some a ≡ Some first → a ≡ first
