@@ -1,7 +1,6 @@
 -- The headers of beams are read one after another.
-use Rattle.std.proofs.Common.{◌≡◌, ◌≢◌, ◌⊎◌, ℕ, zero, suc, ◌+◌, ◌-◌, ◌<◌, List, [], ◌∷◌, ◌++◌, length, length-append, get_or, set, slice_get, Option, Some, None, Result, Err, refl, sym, ap, subst, ◌∙◌, inl, inr, arith}
-use Rattle.std.proofs.lemmas.Bool.{cases_lt}
-use Rattle.std.proofs.lemmas.List.{length-set, get_or-set_same, get_or-set_other, get_or_append_left, get_or-append_right, get_or_default}
+use Rattle.std.proofs.Common.{◌≡◌, ◌≢◌, ◌⊎◌, ℕ, zero, suc, ◌+◌, ◌<◌, List, [], ◌∷◌, ◌++◌, length, get_or, set, slice_get, Option, Some, None, Result, Err, refl, sym, ap, subst, ◌∙◌, inr, arith}
+use Rattle.std.proofs.lemmas.List.{length-set, get_or-set_same, get_or_default}
 use Rattle.psr_base.specs.Inputs.{HasReadFrom}
 use Rattle.psr_base.specs.Told.{Told}
 use Rattle.dada_header.specs.declared.faults.HeaderFault.TheVariants as header
@@ -10,7 +9,7 @@ use Rattle.disk_feeder.specs.declared.answers.FeedFault.{FeedFault}
 use Rattle.disk_feeder.specs.declared.answers.FeedFault.TheVariants as fault
 use Rattle.disk_feeder.specs.declared.feeder.FeederSpace.{FeederSpace}
 use Rattle.disk_feeder.specs.declared.source.Source.{Source}
-use Rattle.disk_feeder.specs.Feeder.{HasPlan, SamePlan, IsBegun, FirstHeadersRead, BreaksFirstHeaders, RefusesAt, HasOpenFile, headers_of, names_at}
+use Rattle.disk_feeder.specs.Feeder.{HasPlan, SamePlan, IsBegun, FirstHeadersRead, BreaksFirstHeaders, RefusesAt, HasOpenFile, FeederRead, headers_of, names_at}
 use Rattle.disk_feeder.specs.Beginning.{AreFirstFiles}
 use Rattle.disk_feeder.specs.Filling.{HoldsAll}
 use Rattle.disk_feeder.specs.Front.{BreaksAt}
@@ -21,8 +20,9 @@ use Rattle.run_outcome.specs.declared.stop.Stop.{Stop}
 use Rattle.run_outcome.specs.declared.stop.Stop.TheVariants.{Memory, ReadFault}
 use Rattle.run_outcome.specs.Firsts.{HasHeader}
 use Rattle.psr_beams.specs.Files.{beam_name, header_read}
-use Rattle.psr_beams.specs.Feeders.{LeavesData, SlotRead, HasBegun, SlotBegun, ReadsHeader, SaysText, FailsHeader, AreRead, AreBegun, HaveRead, stop_of_header_at}
+use Rattle.psr_beams.specs.Feeders.{LeavesData, HasBegun, SlotBegun, ReadsHeader, SaysText, FailsHeader, AreRead, AreBegun, stop_of_header_at}
 use Rattle.psr_beams.proofs.Counting.{retyped}
+use Rattle.psr_beams.proofs.Growing.{one_more, longer, kept_at, new_at, others_stand, all_set}
 use Rattle.psr_beams.proofs.OneFile.{first_name_is, holds_one, some_of, one_there}
 
 -- ---- the plan of the feeder of one file
@@ -68,11 +68,13 @@ module _ (s : SettingsSeen) (name : List ℕ) (old : FeederSpace) (starts : s.st
   module _ {I : Type 0} (told : I → Told) (is_open is_calm : I → Type 0) (faults : I → ℕ) (before after : I)
       (new : FeederSpace) where
     pub begun : SamePlan (at_rest old) (at_rest new) → IsBegun (told after) (at_rest new) →
-        (HasOpenFile (at_rest new) → is_open after) → HasBegun told is_open s name after new
-    begun same is file = record {
+        (HasOpenFile (at_rest new) → is_open after) → FeederRead (told before) (told after) (at_rest new) →
+        HasBegun told is_open s name before after new
+    begun same is file reads = record {
       plan = new_plan old new name s.starts s.size s.max_bytes plan same;
       begun = is;
       file = file;
+      reads = reads;
     }
 
     text : (told after).bytes_under ≡ (told before).bytes_under → SamePlan (at_rest old) (at_rest new) →
@@ -177,88 +179,37 @@ module _ (s : SettingsSeen) (name : List ℕ) (old : FeederSpace) (starts : s.st
 -- ---- one beam after another
 
 module _ {I : Type 0} (told : I → Told) (is_open is_calm : I → Type 0) (faults : I → ℕ) (s : SettingsSeen) where
-  none_less : (n : ℕ) → n - n ≡ 0
-  none_less n = omega arith
-
   pub read_more : (n : ℕ) (before mid : List I) (old new : I) → AreRead told is_calm faults s n before mid →
       n < length mid → ReadsHeader told is_calm faults (beam_name s n) (get_or mid n old) new →
       AreRead told is_calm faults s (n + 1) before (set mid n new)
   read_more n before mid old new all within read = record {
     lent = length-set mid n new ∙ all.lent;
-    each = λ k x below. elim (cases_lt k n) [
-      | inl less ↦
-          let other : k ≢ n = λ e. omega (arith, e, less) in
-          subst (λ z. ReadsHeader told is_calm faults (beam_name s k) (get_or before k x) z)
-          (sym (get_or-set_other mid n k new x other)) (all.each k x less)
-      | inr above ↦
-          let same : n ≡ k = omega (arith, below, above) in
-          let P : ℕ → Type 0 = λ j. ReadsHeader told is_calm faults (beam_name s j) (get_or before j x)
-          (get_or (set mid n new) j x) in
-          let was : get_or mid n old ≡ get_or before n x =
-          get_or_default mid n old x within ∙ all.others n x (omega arith) in
-          subst P same (subst (λ z. ReadsHeader told is_calm faults (beam_name s n) (get_or before n x) z)
-          (sym (get_or-set_same mid n new x within))
-          (subst (λ z. ReadsHeader told is_calm faults (beam_name s n) z new) was read))
-    ];
-    others = λ k x over.
-        let other : k ≢ n = λ e. omega (arith, e, over) in
-        get_or-set_other mid n k new x other ∙ all.others k x (omega (arith, over));
+    each = λ k x below. all_set mid new n within
+        (λ j. ReadsHeader told is_calm faults (beam_name s j) (get_or before j x)) x (λ j less. all.each j x less)
+        (subst (λ z. ReadsHeader told is_calm faults (beam_name s n) z new)
+        (get_or_default mid n old x within ∙ all.others n x (omega arith)) read) k below;
+    others = λ k x over. others_stand mid new n within k x (λ e. omega (arith, e, over))
+        ∙ all.others k x (omega (arith, over));
   }
 
-  pub reads_more : (n : ℕ) (before mid : List I) (old new : I) (slots more : List (Option FeederSpace))
-      (space : FeederSpace) → AreRead told is_calm faults s n before mid → HaveRead told n before mid slots →
-      AreBegun told is_open s n mid slots → n < length mid →
-      SlotRead (told (get_or mid n old)) (told new) (Some space) → more ≡ slots ++ Some space ∷ [] →
-      HaveRead told (n + 1) before (set mid n new) more
-  reads_more n before mid old new slots more space read all begun within is grown k x below =
-      let count = begun.many in
-      elim (cases_lt k n) [
-        | inl less ↦
-            let other : k ≢ n = λ e. omega (arith, e, less) in
-            let slot : get_or more k None ≡ get_or slots k None = ap (λ xs. get_or xs k None) grown
-            ∙ get_or_append_left slots (Some space ∷ []) None k (omega (arith, less, count)) in
-            subst (λ z. SlotRead (told (get_or before k x)) (told z) (get_or more k None))
-            (sym (get_or-set_other mid n k new x other))
-            (subst (λ z. SlotRead (told (get_or before k x)) (told (get_or mid k x)) z) (sym slot) (all k x less))
-        | inr above ↦
-            let same : n ≡ k = omega (arith, below, above) in
-            let P : ℕ → Type 0 = λ j. SlotRead (told (get_or before j x)) (told (get_or (set mid n new) j x))
-            (get_or more j None) in
-            let slot : get_or more n None ≡ Some space = ap (λ xs. get_or xs n None) grown
-            ∙ get_or-append_right slots (Some space ∷ []) n n None count (omega arith)
-            ∙ ap (λ j. get_or (Some space ∷ []) j None) (none_less n) in
-            let was : get_or mid n old ≡ get_or before n x =
-            get_or_default mid n old x within ∙ read.others n x (omega arith) in
-            subst P same (subst (λ z. SlotRead (told (get_or before n x)) (told z) (get_or more n None))
-            (sym (get_or-set_same mid n new x within))
-            (subst (λ z. SlotRead (told (get_or before n x)) (told new) z) (sym slot)
-            (subst (λ z. SlotRead (told z) (told new) (Some space)) was is)))
-      ]
-
-  pub begun_more : (n : ℕ) (mid : List I) (new : I) (slots more : List (Option FeederSpace)) (space : FeederSpace) →
-      AreBegun told is_open s n mid slots → n < length mid → HasBegun told is_open s (beam_name s n) new space →
-      more ≡ slots ++ Some space ∷ [] → AreBegun told is_open s (n + 1) (set mid n new) more
-  begun_more n mid new slots more space all within is grown =
-      let count = all.many in
-      record {
-        many = ap length grown ∙ length-append slots (Some space ∷ []) ∙ ap (λ k. k + 1) count;
-        each = λ k x below. elim (cases_lt k n) [
-          | inl less ↦
-              let other : k ≢ n = λ e. omega (arith, e, less) in
-              let slot : get_or more k None ≡ get_or slots k None = ap (λ xs. get_or xs k None) grown
-              ∙ get_or_append_left slots (Some space ∷ []) None k (omega (arith, less, count)) in
-              subst (λ z. SlotBegun told is_open s (beam_name s k) z (get_or more k None))
-              (sym (get_or-set_other mid n k new x other))
-              (subst (λ z. SlotBegun told is_open s (beam_name s k) (get_or mid k x) z) (sym slot) (all.each k x less))
-          | inr above ↦
-              let same : n ≡ k = omega (arith, below, above) in
-              let P : ℕ → Type 0 = λ j. SlotBegun told is_open s (beam_name s j) (get_or (set mid n new) j x)
-              (get_or more j None) in
-              let slot : get_or more n None ≡ Some space = ap (λ xs. get_or xs n None) grown
-              ∙ get_or-append_right slots (Some space ∷ []) n n None count (omega arith)
-              ∙ ap (λ j. get_or (Some space ∷ []) j None) (none_less n) in
-              subst P same (subst (λ z. SlotBegun told is_open s (beam_name s n) z (get_or more n None))
-              (sym (get_or-set_same mid n new x within))
-              (subst (λ z. SlotBegun told is_open s (beam_name s n) new z) (sym slot) is))
-        ];
-      }
+  pub begun_more : (n : ℕ) (before mid : List I) (old new : I) (slots more : List (Option FeederSpace))
+      (space : FeederSpace) → AreRead told is_calm faults s n before mid → AreBegun told is_open s n before mid slots →
+      n < length mid → HasBegun told is_open s (beam_name s n) (get_or mid n old) new space →
+      more ≡ slots ++ Some space ∷ [] → AreBegun told is_open s (n + 1) before (set mid n new) more
+  begun_more n before mid old new slots more space read all within is grown = record {
+    many = longer slots more (Some space) n all.many grown;
+    each = λ k x below. one_more (λ j. SlotBegun told is_open s (beam_name s j) (get_or before j x)
+        (get_or (set mid n new) j x) (get_or more j None)) n
+        (λ j less.
+        let Was = SlotBegun told is_open s (beam_name s j) (get_or before j x) in
+        subst (λ z. Was z (get_or more j None))
+        (sym (others_stand mid new n within j x (λ e. omega (arith, e, less))))
+        (subst (Was (get_or mid j x)) (sym (kept_at slots more (Some space) n all.many grown None j less))
+        (all.each j x less)))
+        (subst (SlotBegun told is_open s (beam_name s n) (get_or before n x) (get_or (set mid n new) n x))
+        (sym (new_at slots more (Some space) n all.many grown None))
+        (subst (λ z. HasBegun told is_open s (beam_name s n) (get_or before n x) z space)
+        (sym (get_or-set_same mid n new x within))
+        (subst (λ z. HasBegun told is_open s (beam_name s n) z new space)
+        (get_or_default mid n old x within ∙ read.others n x (omega arith)) is))) k below;
+  }

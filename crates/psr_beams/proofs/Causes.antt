@@ -1,15 +1,13 @@
--- From what stands against a search of beams to its status: at no other status it could stand there.
-use Rattle.std.proofs.Common.{◌≡◌, ◌+◌, ◌<◌, ◌≤◌, ◌⊎◌, ℕ, zero, suc, List, [], ◌∷◌, length, inl, inr, sym, ap, subst, ◌∙◌, refl, Contains, arith}
+-- From what stands against a search of beams to its status: nothing else stands against it.
+use Rattle.std.proofs.Common.{◌≡◌, ◌+◌, ◌<◌, ◌≤◌, ◌⊎◌, ℕ, zero, suc, List, length, inl, inr, sym, ap, subst, ◌∙◌, refl, arith}
 use Rattle.std.specs.Prelude.{IsSome}
 use Rattle.std.proofs.lemmas.Bool.{cases_lt}
 use Rattle.psr_base.specs.Count.{Rose}
 use Rattle.search_words.specs.Settings.{SettingsSeen}
-use Rattle.disk_feeder.specs.declared.answers.HeaderCause.{HeaderCause}
 use Rattle.psr_base.specs.Written.{Noted}
 use Rattle.dada_header.specs.declared.faults.HeaderFault.{HeaderFault}
 use Rattle.dada_header.specs.Faults.{IsHeaderRefusal}
 use Rattle.disk_feeder.specs.declared.answers.HeaderCause.TheVariants.{Text, Fields}
-use Rattle.run_outcome.specs.declared.causes.PlanCause.{PlanCause}
 use Rattle.run_outcome.specs.declared.stop.Stop.{Stop}
 use Rattle.run_outcome.specs.declared.stop.Stop.TheVariants.{Words, Value, Header, Plan, Recording, Memory, ReadFault, Gap, TooLong, TooMany, SinkFault, FileFault}
 use Rattle.run_outcome.specs.Texts.{status_of, note_of}
@@ -17,172 +15,86 @@ use Rattle.psr_beams.specs.Words.{SayBeams}
 use Rattle.psr_beams.specs.Seen.{told_in}
 use Rattle.psr_beams.specs.Files.{AreBeamsTold}
 use Rattle.psr_beams.specs.EachBeam.{HaveHeadersAt, AreOfOneAt}
-use Rattle.psr_beams.specs.Refusals.{AreAccepted, RefusesLater, RefusesSearch}
-use Rattle.psr_beams.specs.Found.{StopsBeam, HasTooMany, AreSearched}
+use Rattle.psr_beams.specs.Found.{AreSearched}
 use Rattle.psr_beams.specs.Stops.{SaysOfBeams, IsStopOfBeams}
-use Rattle.psr_beams.specs.Outcome.{Outcome, BeamsSeen, NoneFails, FailsBeam, HoldsName, AcceptedIsSearched}
+use Rattle.psr_beams.specs.Outcome.{Outcome, BeamsSeen, NoneFails, FailsBeam, AcceptedIsSearched}
 use Rattle.psr_beams.specs.Causes.{Answers, CausesAreAnswered, ToldRoomIsEnough, HasNoHeaderAt, IsAnsweredAt, ShortBeamsAreAnswered}
 use Rattle.psr_beams.proofs.Driving.{beams_within}
-use Rattle.psr_beams.proofs.Refused.{has_header, one_refusal, no_header, no_header_at_gap, no_later, no_plan, no_beam, no_many}
+use Rattle.psr_beams.proofs.Refused.{has_header, one_refusal, of_files, one_status, not_searched}
 use Rattle.psr_beams.proofs.Together.{stop_of_files}
-
--- P of each status that a search can have
-by_status : (P : ℕ → Type 0) (n : ℕ) → Contains (0 ∷ 2 ∷ 3 ∷ 4 ∷ 5 ∷ 6 ∷ 7 ∷ 8 ∷ 9 ∷ 10 ∷ []) n →
-    P 0 → P 2 → P 3 → P 4 → P 5 → P 6 → P 7 → P 8 → P 9 → P 10 → P n
-by_status P n (zero, below, is) p0 p2 p3 p4 p5 p6 p7 p8 p9 p10 = subst P is p0
-by_status P n (suc zero, below, is) p0 p2 p3 p4 p5 p6 p7 p8 p9 p10 = subst P is p2
-by_status P n (suc (suc zero), below, is) p0 p2 p3 p4 p5 p6 p7 p8 p9 p10 = subst P is p3
-by_status P n (suc (suc (suc zero)), below, is) p0 p2 p3 p4 p5 p6 p7 p8 p9 p10 = subst P is p4
-by_status P n (suc (suc (suc (suc zero))), below, is) p0 p2 p3 p4 p5 p6 p7 p8 p9 p10 = subst P is p5
-by_status P n (suc (suc (suc (suc (suc zero)))), below, is) p0 p2 p3 p4 p5 p6 p7 p8 p9 p10 = subst P is p6
-by_status P n (suc (suc (suc (suc (suc (suc zero))))), below, is) p0 p2 p3 p4 p5 p6 p7 p8 p9 p10 = subst P is p7
-by_status P n (suc (suc (suc (suc (suc (suc (suc zero)))))), below, is) p0 p2 p3 p4 p5 p6 p7 p8 p9 p10 = subst P is p8
-by_status P n (suc (suc (suc (suc (suc (suc (suc (suc zero))))))), below, is) p0 p2 p3 p4 p5 p6 p7 p8 p9 p10 =
-    subst P is p9
-by_status P n (suc (suc (suc (suc (suc (suc (suc (suc (suc zero)))))))), below, is) p0 p2 p3 p4 p5 p6 p7 p8 p9 p10 =
-    subst P is p10
-by_status P n (suc (suc (suc (suc (suc (suc (suc (suc (suc (suc k))))))))), below, is) p0 p2 p3 p4 p5 p6 p7 p8 p9 p10 =
-    absurd (omega (arith, below))
 
 module _ (is_calm : ℕ → Type 0) (words : List (List ℕ)) (seen : BeamsSeen)
     (o : Outcome words seen.inputs is_calm seen.out_before seen.out_after seen.notes_before seen.notes_after
     seen.status)
     (s : SettingsSeen) (files : List (List ℕ)) (says : SayBeams words s)
-    (are : AreBeamsTold (told_in seen.inputs) s.names files) where
+    (are : AreBeamsTold (told_in seen.inputs) s.names files) (quiet : NoneFails is_calm seen.inputs s) where
   abbrev n : ℕ
   n = seen.status
 
   -- the inputs of a beam that fails hold its file
-  holds : (beam : ℕ) → beam < length s.names → HoldsName (seen.inputs beam).told s beam
-  holds beam there = subst IsSome (sym (are.each beam there)) refl
-
-  not_six : NoneFails is_calm seen.inputs s → n ≡ 6 → ⊥
-  not_six quiet e =
+  not_six : n ≡ 6 → ⊥
+  not_six e =
       let f = o.read.failed e in
       let there = f.there s says in
       by_cause f there (quiet f.beam there)
     where
       by_cause : (f : FailsBeam words seen.inputs is_calm) → f.beam < length s.names →
           is_calm f.beam ⊎ (¬ Rose (seen.inputs f.beam).faults_before (seen.inputs f.beam).faults_after) → ⊥
-      by_cause f there (inl calm) = f.uncalm calm s says (holds f.beam there)
+      by_cause f there (inl calm) = f.uncalm calm s says (subst IsSome (sym (are.each f.beam there)) refl)
       by_cause f there (inr still) = still f.rose
-
-  -- ---- what each status says
-
-  of_files : (stop : Stop) → SaysOfBeams (told_in seen.inputs) s stop → IsStopOfBeams s files stop
-  of_files = stop_of_files (told_in seen.inputs) s files are
-      (let least = (beams_within words s says).0 in omega (arith, least))
 
   searched_at : (n ≡ 0) ⊎ (n ≡ 10) → AreSearched s files
   searched_at (inl e) = (o.written.text e s files says are).0
   searched_at (inr e) = (o.written.front e s files says are).0
 
-  headers_of : n ≡ 3 → (beam : ℕ) × (cause : HeaderCause) × IsStopOfBeams s files (Header beam cause)
-  headers_of e = let at = o.stopped.header e s says in (at.0, at.1, of_files (Header at.0 at.1) at.2)
+  -- Q holds of the status of a search at its words, its inputs and its memory, of one that wrote its text or a front of
+  -- it, and of one that stopped at its files
+  by_end : (Q : Type 0) → (n ≡ 5 → Q) → ((n ≡ 0) ⊎ (n ≡ 10) → Q) →
+      ((stop : Stop) → of_files stop ≡ 1 → n ≡ status_of stop → IsStopOfBeams s files stop → Q) → Q
+  by_end Q memory written found = elim (cases_lt 0 n) [
+    | inl some ↦
+        let note = o.noted.noted (λ e. omega (arith, some, e)) in
+        by_stop note.stop note.answered (note.cause s says)
+    | inr none ↦ written (inl (omega (arith, none)))
+  ]
+    where
+      least : 0 < length s.names
+      least = let many = (beams_within words s says).0 in omega (arith, many)
 
-  plan_at : n ≡ 4 → (cause : PlanCause) × RefusesSearch s files cause
-  plan_at e = let at = o.stopped.plan e s says in (at.0, of_files (Plan at.0) at.1)
+      by_stop : (stop : Stop) → n ≡ status_of stop → SaysOfBeams (told_in seen.inputs) s stop → Q
+      by_stop Words e is = absurd (o.judged.refused e s says)
+      by_stop (Value opt) e is = absurd (o.judged.refused e s says)
+      by_stop Memory e is = memory e
+      by_stop ReadFault e is = absurd (not_six e)
+      by_stop SinkFault e is = written (inr e)
+      by_stop (Recording cause) e is = absurd is
+      by_stop FileFault e is = absurd is
+      by_stop stop e is = found stop refl e (stop_of_files (told_in seen.inputs) s files are least stop is)
 
-  offset_at : n ≡ 7 →
-      (beam : ℕ) × (expected : ℕ) × (found : ℕ) × RefusesLater files (Gap beam expected found)
-  offset_at e =
-      let at = o.stopped.offset e s says in
-      (at.0, at.1, at.2, of_files (Gap at.0 at.1 at.2) at.3)
-
-  long_at : n ≡ 8 → StopsBeam s files (TooLong s.max_bytes)
-  long_at e = of_files (TooLong s.max_bytes) (o.stopped.too_long e s says)
-
-  many_at : n ≡ 9 → (count : ℕ) × (limit : ℕ) × HasTooMany s files count limit
-  many_at e = let at = o.stopped.too_many e s says in (at.0, at.1, of_files (TooMany at.0 at.1) at.2)
-
-  -- ---- each cause against each status
-
-  -- one that stands where not all headers are accepted
-  before_search : NoneFails is_calm seen.inputs s → (AreAccepted files → ⊥) → (wanted : ℕ) →
-      (n ≡ 3 → Answers n wanted) → (n ≡ 7 → Answers n wanted) → Answers n wanted
-  before_search quiet not wanted three seven = by_status (λ k. n ≡ k → Answers n wanted) n o.known
-      (λ e. absurd (not (searched_at (inl e)).read.begins.accepted))
-      (λ e. absurd (o.judged.refused e s says))
-      three
-      (λ e. absurd (not (plan_at e).1.accepted))
-      (λ e. inr e)
-      (λ e. absurd (not_six quiet e))
-      seven
-      (λ e. absurd (not (long_at e).begins.accepted))
-      (λ e. absurd (not (many_at e).2.read.begins.accepted))
-      (λ e. absurd (not (searched_at (inr e)).read.begins.accepted))
-      refl
-
-  -- one that stands where all headers are accepted
-  after_headers : NoneFails is_calm seen.inputs s → AreAccepted files → (wanted : ℕ) →
-      (AreSearched s files → ⊥) → (n ≡ 4 → Answers n wanted) → (n ≡ 8 → Answers n wanted) →
-      (n ≡ 9 → Answers n wanted) → Answers n wanted
-  after_headers quiet accepted wanted not four eight nine = by_status (λ k. n ≡ k → Answers n wanted) n o.known
-      (λ e. absurd (not (searched_at (inl e))))
-      (λ e. absurd (o.judged.refused e s says))
-      (λ e. let h = headers_of e in absurd (no_header files s h.0 h.1 accepted h.2))
-      four
-      (λ e. inr e)
-      (λ e. absurd (not_six quiet e))
-      (λ e. let g = offset_at e in absurd (no_later files _ accepted g.3))
-      eight
-      nine
-      (λ e. absurd (not (searched_at (inr e))))
-      refl
-
-  header : NoneFails is_calm seen.inputs s → (beam : ℕ) (cause : HeaderCause) →
-      IsStopOfBeams s files (Header beam cause) → Answers n 3
-  header quiet beam cause is = before_search quiet (λ a. no_header files s beam cause a is) 3 (λ e. inl e)
-      (λ e. let g = offset_at e in absurd (no_header_at_gap files s beam cause g.0 g.1 g.2 g.3 is))
-
-  offset : NoneFails is_calm seen.inputs s → (beam expected found : ℕ) →
-      RefusesLater files (Gap beam expected found) → Answers n 7
-  offset quiet beam expected found r = before_search quiet (λ a. no_later files _ a r) 7
-      (λ e. let h = headers_of e in absurd (no_header_at_gap files s h.0 h.1 beam expected found r h.2))
-      (λ e. inl e)
-
-  plan : NoneFails is_calm seen.inputs s → (cause : PlanCause) → RefusesSearch s files cause → Answers n 4
-  plan quiet cause r = after_headers quiet r.accepted 4 (λ all. no_plan files s cause all.read.begins r) (λ e. inl e)
-      (λ e. absurd (no_plan files s cause (long_at e).begins r))
-      (λ e. absurd (no_plan files s cause (many_at e).2.read.begins r))
-
-  too_long : NoneFails is_calm seen.inputs s → (limit : ℕ) → StopsBeam s files (TooLong limit) → Answers n 8
-  too_long quiet limit r = after_headers quiet r.begins.accepted 8 (λ all. no_beam files s _ all.read r)
-      (λ e. let p = plan_at e in absurd (no_plan files s p.0 r.begins p.1)) (λ e. inl e)
-      (λ e. absurd (no_beam files s _ (many_at e).2.read r))
-
-  too_many : NoneFails is_calm seen.inputs s → (count limit : ℕ) → HasTooMany s files count limit → Answers n 9
-  too_many quiet count limit r = after_headers quiet r.read.begins.accepted 9 (λ all. no_many files s count limit all r)
-      (λ e. let p = plan_at e in absurd (no_plan files s p.0 r.read.begins p.1))
-      (λ e. absurd (no_beam files s _ r.read (long_at e))) (λ e. inl e)
-
-  accepted : NoneFails is_calm seen.inputs s → AreSearched s files →
-      ¬ Rose seen.out_before.faults seen.out_after.faults → (n ≡ 0) ⊎ (n ≡ 5)
-  accepted quiet all still = by_status (λ k. n ≡ k → (n ≡ 0) ⊎ (n ≡ 5)) n o.known
-      (λ e. inl e)
-      (λ e. absurd (o.judged.refused e s says))
-      (λ e. let h = headers_of e in absurd (no_header files s h.0 h.1 all.read.begins.accepted h.2))
-      (λ e. let p = plan_at e in absurd (no_plan files s p.0 all.read.begins p.1))
-      (λ e. inr e)
-      (λ e. absurd (not_six quiet e))
-      (λ e. let g = offset_at e in absurd (no_later files _ all.read.begins.accepted g.3))
-      (λ e. absurd (no_beam files s _ all.read (long_at e)))
-      (λ e. let m = many_at e in absurd (no_many files s m.0 m.1 all m.2))
-      (λ e. absurd (still (o.written.failed e)))
-      refl
+  answers : (stop : Stop) → of_files stop ≡ 1 → IsStopOfBeams s files stop → Answers n (status_of stop)
+  answers stop known is = by_end (Answers n (status_of stop)) (λ e. inr e)
+      (λ e. absurd (not_searched files s stop known is (searched_at e)))
+      (λ other found e there. inl (e ∙ one_status files s other stop found known there is))
 
 pub causes_are_answered : (is_calm : ℕ → Type 0) → CausesAreAnswered is_calm
-causes_are_answered is_calm words seen o s files says are quiet = record {
-  header = header is_calm words seen o s files says are quiet;
-  offset = offset is_calm words seen o s files says are quiet;
-  plan = plan is_calm words seen o s files says are quiet;
-  too_long = too_long is_calm words seen o s files says are quiet;
-  too_many = too_many is_calm words seen o s files says are quiet;
-}
+causes_are_answered is_calm words seen o s files says are quiet =
+    let at = answers is_calm words seen o s files says are quiet in
+    record {
+      header = λ beam cause is. at (Header beam cause) refl is;
+      offset = λ beam expected found is. at (Gap beam expected found) refl is;
+      plan = λ cause is. at (Plan cause) refl is;
+      too_long = λ limit is. at (TooLong limit) refl is;
+      too_many = λ count limit is. at (TooMany count limit) refl is;
+    }
 
 pub accepted_is_searched : (is_calm : ℕ → Type 0) → AcceptedIsSearched is_calm
 accepted_is_searched is_calm words seen o s files says are all quiet still =
-    accepted is_calm words seen o s files says are quiet all still
+    by_end is_calm words seen o s files says are quiet ((seen.status ≡ 0) ⊎ (seen.status ≡ 5)) (λ e. inr e) written
+    (λ stop found e there. absurd (not_searched files s stop found there all))
+  where
+    written : (seen.status ≡ 0) ⊎ (seen.status ≡ 10) → (seen.status ≡ 0) ⊎ (seen.status ≡ 5)
+    written (inl e) = inl e
+    written (inr e) = absurd (still (o.written.failed e))
 
 -- the room that was told was enough
 pub told_room : (is_calm : ℕ → Type 0) → ToldRoomIsEnough is_calm
@@ -233,30 +145,17 @@ module _ (is_calm : ℕ → Type 0) (words : List (List ℕ)) (seen : BeamsSeen)
       by_cause f over (inl calm) = f.uncalm calm s says (subst IsSome (sym (r.told f.beam over)) refl)
       by_cause f over (inr still) = still f.rose
 
-  three : Answers m 3
-  three = by_status (λ k. m ≡ k → Answers m 3) m o.known
-      (λ e. let all = o.stopped.searched (inl e) s says in
-      absurd (one_refused all.begins.observation all.begins.accepted))
-      (λ e. absurd (o.judged.refused e s says))
-      (λ e. inl e)
-      (λ e. let p = (o.stopped.plan e s says).1 in absurd (one_refused p.observation p.accepted))
-      (λ e. inr e)
-      (λ e. absurd (not_failed e))
-      (λ e. absurd (all_refused (o.stopped.offset e s says).3.texts))
-      (λ e. let p = o.stopped.too_long e s says in
-      absurd (one_refused p.begins.observation p.begins.accepted))
-      (λ e. let p = (o.stopped.too_many e s says).2 in
-      absurd (one_refused p.begins.observation p.begins.accepted))
-      (λ e. let all = o.stopped.searched (inr e) s says in
-      absurd (one_refused all.begins.observation all.begins.accepted))
-      refl
+  searched_none : (m ≡ 0) ⊎ (m ≡ 10) → ⊥
+  searched_none e = let all = o.stopped.searched e s says in one_refused all.begins.observation all.begins.accepted
 
-  -- and the line names it
-  names : (stop : Stop) → status_of stop ≡ 3 → SaysOfBeams (told_in seen.inputs) s stop →
-      stop ≡ Header beam (Text fault)
-  names Words e is = absurd (omega (arith, e))
-  names (Value opt) e is = absurd (omega (arith, e))
-  names (Header k (Text other)) e is = elim (cases_lt beam k) [
+  -- its stop is this one, or there was no memory
+  names : (stop : Stop) → m ≡ status_of stop → SaysOfBeams (told_in seen.inputs) s stop →
+      (stop ≡ Header beam (Text fault)) ⊎ (m ≡ 5)
+  names Words e is = absurd (o.judged.refused e s says)
+  names (Value opt) e is = absurd (o.judged.refused e s says)
+  names Memory e is = inr e
+  names ReadFault e is = absurd (not_failed e)
+  names (Header k (Text other)) e is = inl (elim (cases_lt beam k) [
     | inl less ↦ absurd (refused (λ j within. is.earlier j (omega (arith, less, within))))
     | inr over ↦ elim (cases_lt k beam) [
       | inl less ↦
@@ -269,28 +168,32 @@ module _ (is_calm : ℕ → Type 0) (words : List (List ℕ)) (seen : BeamsSeen)
           (subst (λ j. IsHeaderRefusal (r.file_of j) fault) (sym same) r.refused) in
           ap (λ j. Header j (Text other)) same ∙ ap (λ f. Header beam (Text f)) fault_is
     ]
-  ]
+  ])
   names (Header k (Fields other)) e (inl is) = absurd (all_refused is.1.texts)
   names (Header k (Fields other)) e (inr is) = absurd (all_refused is.texts)
-  names (Plan cause) e is = absurd (omega (arith, e))
-  names (Recording cause) e is = absurd (omega (arith, e))
-  names Memory e is = absurd (omega (arith, e))
-  names ReadFault e is = absurd (omega (arith, e))
-  names (Gap k expected found) e is = absurd (omega (arith, e))
-  names (TooLong limit) e is = absurd (omega (arith, e))
-  names (TooMany count limit) e is = absurd (omega (arith, e))
-  names SinkFault e is = absurd (omega (arith, e))
-  names FileFault e is = absurd (omega (arith, e))
+  names (Gap k expected found) e is = absurd (all_refused is.texts)
+  names (Plan cause) e is = absurd (one_refused is.observation is.accepted)
+  names (TooLong limit) e is = absurd (one_refused is.begins.observation is.begins.accepted)
+  names (TooMany count limit) e is = absurd (one_refused is.begins.observation is.begins.accepted)
+  names SinkFault e is = absurd (searched_none (inr e))
+  names stop e is = absurd is
 
   short_answered : IsAnsweredAt seen (Header beam (Text fault))
-  short_answered = record {
-    status = three;
-    line = λ e.
-        let note = o.noted.noted (λ z. omega (arith, e, z)) in
-        let three_of : status_of note.stop ≡ 3 = sym note.answered ∙ e in
-        subst (λ stop. Noted (note_of stop) seen.notes_before seen.notes_after)
-        (names note.stop three_of (note.cause s says)) note.line;
-  }
+  short_answered = elim (cases_lt 0 m) [
+    | inl some ↦
+        let note = o.noted.noted (λ e. omega (arith, some, e)) in
+        by_name note.stop note.answered note.line (names note.stop note.answered (note.cause s says))
+    | inr none ↦ absurd (searched_none (inl (omega (arith, none))))
+  ]
+    where
+      by_name : (stop : Stop) → m ≡ status_of stop → Noted (note_of stop) seen.notes_before seen.notes_after →
+          (stop ≡ Header beam (Text fault)) ⊎ (m ≡ 5) → IsAnsweredAt seen (Header beam (Text fault))
+      by_name stop status line (inl is) = record {
+        status = inl (status ∙ ap status_of is);
+        line = λ e. subst (λ x. Noted (note_of x) seen.notes_before seen.notes_after) is line;
+      }
+      by_name stop status line (inr five) =
+          record { status = inr five; line = λ e. absurd (omega (arith, five, e)) }
 
 pub short_beams : (is_calm : ℕ → Type 0) → ShortBeamsAreAnswered is_calm
 short_beams is_calm words seen o s says beam fault r = short_answered is_calm words seen o s says beam fault r

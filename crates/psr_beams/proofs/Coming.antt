@@ -20,7 +20,7 @@ use Rattle.beam_set.specs.Beam.{feeder_in}
 use Rattle.beam_set.specs.Answers.{BeamAnswers, session_of}
 use Rattle.beam_set.specs.Sets.{SlotAnswers}
 use Rattle.search_session.specs.Sessions.{data_through}
-use Rattle.psr_beams.specs.Feeders.{SlotRead}
+use Rattle.psr_beams.specs.Feeders.{SlotBegun}
 use Rattle.psr_beams.specs.Engines.{IsBeamOf}
 use Rattle.psr_beams.specs.Joined.{IsSlotJoined}
 use Rattle.psr_beams.specs.Driven.{HasCome, HasSlotCome, SlotBreaks}
@@ -38,12 +38,6 @@ told_limit : (plan : Plan) (size : ℕ) (before : List (List ℕ)) (current : Li
     limit ≡ plan.max_bytes
 told_limit plan size before current headers blocks end limit sealed is =
     (subst (λ e. SealedAs plan size before current headers blocks e) is sealed).3
-
-same_inside : {X : Type 0} (x y : X) → Some x ≡ Some y → x ≡ y
-same_inside x y is = cc
-
-none_inside : {X : Type 0} (x : X) → None ≡ Some x → ⊥
-none_inside x is = cc
 
 module _ {I : Type 0} (told : I → Told) (is_calm : I → Type 0) (faults : I → ℕ) (s : SettingsSeen) (o : Observation)
     (name : List ℕ) (before after : I) where
@@ -102,21 +96,20 @@ module _ {I : Type 0} (told : I → Told) (is_calm : I → Type 0) (faults : I �
       one_broken plan s name file is.plan.files (is.plan.transfers ∙ one) is.plan.limit start (told after) now
       (is_calm before) feed.place _ _ (feed.broke failed start reads)
 
-  pub slot_breaks : (start : Told) (slot : Option FeederSpace) (beam : Option Beam) (end : Option BeamEnd) →
-      s.starts ≡ 0 ∷ [] → IsSlotJoined (told before) s o name slot beam →
-      SlotAnswers told is_calm faults beam before after end → SlotRead start (told before) slot →
-      SlotBreaks s.max_bytes start (told before) name (told after) end
-  slot_breaks start None beam end one joined answers reads = absurd reads
-  slot_breaks start (Some f) None end one joined answers reads = absurd joined
-  slot_breaks start (Some f) (Some b) None one joined answers reads = tt
-  slot_breaks start (Some f) (Some b) (Some e) one joined answers reads =
-      beam_breaks start b e one joined.beam_is answers (joined.reads_on start (told before) reads)
+  pub slot_breaks : (is_open : I → Type 0) (start : I) (slot : Option FeederSpace) (beam : Option Beam)
+      (end : Option BeamEnd) → s.starts ≡ 0 ∷ [] → IsSlotJoined (told before) s o name slot beam →
+      SlotAnswers told is_calm faults beam before after end → SlotBegun told is_open s name start before slot →
+      SlotBreaks s.max_bytes (told start) (told before) name (told after) end
+  slot_breaks is_open start (Some f) (Some b) (Some e) one joined answers begun =
+      beam_breaks (told start) b e one joined.beam_is answers (joined.reads_on (told start) (told before) begun.reads)
+  slot_breaks is_open start None beam end one joined answers begun = absurd joined
+  slot_breaks is_open start (Some f) None end one joined answers begun = absurd joined
+  slot_breaks is_open start (Some f) (Some b) None one joined answers begun = tt
 
-  pub slot_come : (slot : Option Beam) (end : Option BeamEnd) (beam : Beam) → slot ≡ Some beam → s.starts ≡ 0 ∷ [] →
-      IsBeamOf (told before) s o name beam → SlotAnswers told is_calm faults slot before after end →
+  pub slot_come : (slot : Option FeederSpace) (beam : Option Beam) (end : Option BeamEnd) → s.starts ≡ 0 ∷ [] →
+      IsSlotJoined (told before) s o name slot beam → SlotAnswers told is_calm faults beam before after end →
       HasSlotCome told is_calm faults s o name before after end
-  slot_come None end beam is one beam_is answers = absurd (none_inside beam is)
-  slot_come (Some b) None beam is one beam_is answers = absurd answers
-  slot_come (Some b) (Some e) beam is one beam_is answers =
-      has_come beam e one beam_is
-      (subst (λ x. BeamAnswers told is_calm faults x before after e) (same_inside b beam is) answers)
+  slot_come None beam end one joined answers = absurd joined
+  slot_come (Some f) None end one joined answers = absurd joined
+  slot_come (Some f) (Some b) None one joined answers = absurd answers
+  slot_come (Some f) (Some b) (Some e) one joined answers = has_come b e one joined.beam_is answers

@@ -88,39 +88,40 @@ module _ {I : Type 0} (told : I → Told) (is_calm : I → Type 0) (faults : I �
     pub lent : length after ≡ length before
     pub each : (k : ℕ) (x : I) → HasReadFrom told is_calm faults (failed k) (get_or before k x) (get_or after k x)
 
-  module _ (failed : ℕ → Type 0) (before after : List I) (all : AllRead failed before after) where
-    pub counts : (k : ℕ) → faults_at faults before k ≤ faults_at faults after k
-    counts k = elim (cases_lt k (length before)) [
-      | inl below ↦
-          let x = element before k below in
-          let lent = all.lent in
-          let old = seen_there faults 0 before k x below in
-          let new = seen_there faults 0 after k x (omega (arith, below, lent)) in
-          let more = (all.each k x).count in
-          omega (arith, old, new, more)
-      | inr over ↦
-          let lent = all.lent in
-          let old = seen_past faults 0 before k over in
-          let new = seen_past faults 0 after k (omega (arith, over, lent)) in
-          omega (arith, old, new)
-    ]
-
-    pub still : (k : ℕ) → ¬ failed k → faults_at faults after k ≡ faults_at faults before k
-    still k not = elim (cases_lt k (length before)) [
-      | inl below ↦
-          let x = element before k below in
-          let lent = all.lent in
-          seen_there faults 0 after k x (omega (arith, below, lent)) ∙ (all.each k x).quiet not
-          ∙ sym (seen_there faults 0 before k x below)
-      | inr over ↦
-          let lent = all.lent in
-          seen_past faults 0 after k (omega (arith, over, lent)) ∙ sym (seen_past faults 0 before k over)
-    ]
-
-    pub rises : (k : ℕ) → k < length before → failed k → Rose (faults_at faults before k) (faults_at faults after k)
-    rises k below did =
+module _ {I : Type 0} {told : I → Told} {is_calm : I → Type 0} {faults : I → ℕ} {failed : ℕ → Type 0}
+    {before after : List I} (all : AllRead told is_calm faults failed before after) where
+  pub counts : (k : ℕ) → faults_at faults before k ≤ faults_at faults after k
+  counts k = elim (cases_lt k (length before)) [
+    | inl below ↦
         let x = element before k below in
         let lent = all.lent in
-        subst (λ n. Rose n (faults_at faults after k)) (sym (seen_there faults 0 before k x below))
-        (subst (λ n. Rose (faults (get_or before k x)) n)
-        (sym (seen_there faults 0 after k x (omega (arith, below, lent)))) ((all.each k x).rose did))
+        let old = seen_there faults 0 before k x below in
+        let new = seen_there faults 0 after k x (omega (arith, below, lent)) in
+        let more = (all.each k x).count in
+        omega (arith, old, new, more)
+    | inr over ↦
+        let lent = all.lent in
+        let old = seen_past faults 0 before k over in
+        let new = seen_past faults 0 after k (omega (arith, over, lent)) in
+        omega (arith, old, new)
+  ]
+
+  pub still : (k : ℕ) → ¬ failed k → faults_at faults after k ≡ faults_at faults before k
+  still k not = elim (cases_lt k (length before)) [
+    | inl below ↦
+        let x = element before k below in
+        let lent = all.lent in
+        seen_there faults 0 after k x (omega (arith, below, lent)) ∙ (all.each k x).quiet not
+        ∙ sym (seen_there faults 0 before k x below)
+    | inr over ↦
+        let lent = all.lent in
+        seen_past faults 0 after k (omega (arith, over, lent)) ∙ sym (seen_past faults 0 before k over)
+  ]
+
+  pub rises : (k : ℕ) → k < length before → failed k → Rose (faults_at faults before k) (faults_at faults after k)
+  rises k below did =
+      let x = element before k below in
+      let lent = all.lent in
+      subst (λ n. Rose n (faults_at faults after k)) (sym (seen_there faults 0 before k x below))
+      (subst (λ n. Rose (faults (get_or before k x)) n)
+      (sym (seen_there faults 0 after k x (omega (arith, below, lent)))) ((all.each k x).rose did))

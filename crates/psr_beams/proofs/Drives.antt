@@ -8,19 +8,22 @@ use Rattle.search_model.specs.Plan.{plan_refusal}
 use Rattle.search_words.specs.Settings.{SettingsSeen, AllInRange}
 use Rattle.disk_feeder.specs.declared.feeder.FeederSpace.{FeederSpace}
 use Rattle.beam_set.specs.declared.ended.BeamEnd.{BeamEnd}
-use Rattle.beam_set.specs.declared.space.BeamSpace.{BeamSpace}
+use Rattle.beam_set.specs.declared.beam.Beam.{Beam}
+use Rattle.beam_set.specs.Sets.{SetBegins, SetAnswers}
 use Rattle.beam_set.specs.Laws.{BeamsHoldData}
 use Rattle.beam_set.specs.Later.{LaterHeadersAgree}
 use Rattle.run_outcome.specs.declared.stop.Stop.{Stop}
 use Rattle.run_outcome.specs.Lone.{IsOfOne}
 use Rattle.psr_beams.specs.Judged.{headers_in, AreOfOne}
-use Rattle.psr_beams.specs.Engines.{AreSpaces}
+use Rattle.psr_beams.specs.Seen.{told_at}
+use Rattle.psr_beams.specs.Joined.{CanJoinAll, AreJoined}
 use Rattle.psr_beams.specs.Feeders.{AreRead, AreBegun}
 use Rattle.psr_beams.specs.Opened.{StopsOpening}
 use Rattle.psr_beams.specs.Ends.{NoneStops, EndsBeams}
-use Rattle.psr_beams.specs.Driven.{CanRun, HaveCome, HaveBroken, ReadsAll, IsDriven}
+use Rattle.psr_beams.specs.Driven.{HaveCome, HaveBroken, ReadsAll, IsDriven}
 use Rattle.psr_beams.proofs.OneFile.{only_start}
-use Rattle.psr_beams.proofs.Opening.{headers_there, are_headers, can_run}
+use Rattle.psr_beams.proofs.Opening.{headers_there, are_headers, can_join}
+use Rattle.psr_beams.proofs.Running.{set_begins, have_come, have_broken}
 use Rattle.psr_beams.proofs.Walked.{all_data}
 
 -- the headers of all beams were read, and these are their feeders
@@ -30,18 +33,18 @@ pub record AreReady {I : Type 0} (told : I → Told) (is_open : I → Type 0) (i
   pub some : 0 < length s.names
   pub enough : length s.names ≤ length before
   pub read : AreRead told is_calm faults s (length s.names) before mid
-  pub begun : AreBegun told is_open s (length s.names) mid slots
+  pub begun : AreBegun told is_open s (length s.names) before mid slots
 
 pub are_ready : {I : Type 0} (told : I → Told) (is_open is_calm : I → Type 0) (faults : I → ℕ) (s : SettingsSeen) →
     AllInRange s → IsOfOne s → (before mid : List I) (count : ℕ) → count ≡ length s.names → 0 < count →
     count ≤ length before → (slots : List (Option FeederSpace)) → AreRead told is_calm faults s count before mid →
-    AreBegun told is_open s count mid slots → AreReady told is_open is_calm faults s before mid slots
+    AreBegun told is_open s count before mid slots → AreReady told is_open is_calm faults s before mid slots
 are_ready told is_open is_calm faults s range one before mid count is some enough slots read begun = record {
   starts = only_start s.starts (length s.names) range.run.transfers one.transfer;
   some = omega (arith, some, is);
   enough = omega (arith, enough, is);
   read = subst (λ m. AreRead told is_calm faults s m before mid) is read;
-  begun = subst (λ m. AreBegun told is_open s m mid slots) is begun;
+  begun = subst (λ m. AreBegun told is_open s m before mid slots) is begun;
 }
 
 -- the feeders are lent as a slice
@@ -67,7 +70,7 @@ module _ {I : Type 0} {told : I → Told} {is_open is_calm : I → Type 0} {faul
   headers_read k within =
       let count = many in
       subst (λ xs. IsSome (headers_in xs k)) (sym same)
-      (headers_there told is_open s ready.starts n mid slots ready.begun reach k (omega (arith, within, count)))
+      (headers_there told is_open s ready.starts n before mid slots ready.begun reach k (omega (arith, within, count)))
 
   -- ---- it was not opened
 
@@ -93,36 +96,40 @@ module _ {I : Type 0} {told : I → Told} {is_open is_calm : I → Type 0} {faul
     of_one = subst (λ m. AreOfOne (headers_in slots) m o) many
         (subst (λ xs. AreOfOne (headers_in xs) (length slice) o) same accepted)
 
-    pub runs : LaterHeadersAgree → {spaces : List (Option BeamSpace)} →
-        AreSpaces s o (headers_in slice) (length slice) spaces → CanRun told is_open s o n mid spaces slots
-    runs law {spaces} are =
-        can_run told is_open s ready.starts law o n mid spaces slots reach ready.some ready.begun of_one
-        (subst (λ m. AreSpaces s o (headers_in slots) m spaces) many
-        (subst (λ xs. AreSpaces s o (headers_in xs) (length slice) spaces) same are))
+    pub can_open : LaterHeadersAgree → CanJoinAll (told_at told mid) s o n slots
+    can_open law =
+        can_join told is_open s ready.starts law o n before mid slots reach ready.some ready.begun of_one
 
-    -- the ends are lent as a slice
-    module _ {after : List I} {ends ended : List (Option BeamEnd)}
-        (come : HaveCome told is_calm faults s o n mid after ends) (are : ended ≡ ends) where
-      came : HaveCome told is_calm faults s o n mid after ended
-      came = subst (λ xs. HaveCome told is_calm faults s o n mid after xs) (sym are) come
+    module _ {beams : List (Option Beam)} (joined : AreJoined (told_at told mid) s o n slots beams) where
+      pub begins : SetBegins told is_open beams mid
+      begins = set_begins told is_open s o ready.starts n before mid reach slots ready.begun beams joined
 
-      pub data_found :
-          NoneStops ended → (data_of_beams : List (List ℕ)) × BeamsHoldData o s.search data_of_beams ended
-      data_found = all_data told is_calm faults s o n mid after ended came reach
+      -- the ends are lent as a slice
+      module _ {after : List I} {ends ended : List (Option BeamEnd)}
+          (answers : SetAnswers told is_calm faults beams mid after ends) (are : ended ≡ ends) where
+        came : HaveCome told is_calm faults s o n mid after ended
+        came = subst (λ xs. HaveCome told is_calm faults s o n mid after xs) (sym are)
+            (have_come told is_open s o ready.starts n before mid reach slots ready.begun beams joined is_calm faults
+            after ends answers)
 
-      pub went_through : plan_refusal o s.search ≡ None → HaveBroken told s n before mid after ends →
-          (within more : ℕ) (out out' : SinkSeen) (stop : Option Stop) →
-          EndsBeams o s.search within more ended out out' stop →
-          IsDriven told is_calm faults s within more before after out out' stop
-      went_through fits broken within more out out' stop at = inr (inr (record {
-        headers = headers_in slots;
-        mid = mid;
-        read = reads_all;
-        observation = o;
-        accepted = of_one;
-        fits = fits;
-        ends = ended;
-        come = came;
-        broken = subst (λ xs. HaveBroken told s n before mid after xs) (sym are) broken;
-        ended = at;
-      }))
+        pub data_found :
+            NoneStops ended → (data_of_beams : List (List ℕ)) × BeamsHoldData o s.search data_of_beams ended
+        data_found = all_data told is_calm faults s o n mid after ended came reach
+
+        pub went_through : plan_refusal o s.search ≡ None → (within more : ℕ) (out out' : SinkSeen)
+            (stop : Option Stop) → EndsBeams o s.search within more ended out out' stop →
+            IsDriven told is_calm faults s within more before after out out' stop
+        went_through fits within more out out' stop at = inr (inr (record {
+          headers = headers_in slots;
+          mid = mid;
+          read = reads_all;
+          observation = o;
+          accepted = of_one;
+          fits = fits;
+          ends = ended;
+          come = came;
+          broken = subst (λ xs. HaveBroken told s n before mid after xs) (sym are)
+              (have_broken told is_open s o ready.starts n before mid reach slots ready.begun beams joined is_calm
+              faults after ends answers);
+          ended = at;
+        }))

@@ -3,8 +3,8 @@ pub mod Saying
 pub mod Refused
 pub mod Causes
 pub mod Counting
+pub mod Growing
 pub mod Slots
-pub mod Spaces
 pub mod OneFile
 pub mod Begun
 pub mod Ended

@@ -1,6 +1,6 @@
 -- Beams whose headers were read and accepted can be run.
 use Rattle.std.proofs.Common.{◌≡◌, ◌⊎◌, ℕ, zero, suc, ◌<◌, ◌≤◌, inl, inr, Bool, true, false, List, [], ◌∷◌, length, get_or, Option, Some, None, Result, Ok, Err, refl, sym, ap, subst, ◌∙◌, arith}
-use Rattle.std.specs.Prelude.{IsSome, IsSomeAnd, ◌==◌, if◌then◌else◌}
+use Rattle.std.specs.Prelude.{IsSome, ◌==◌, if◌then◌else◌}
 use Rattle.std.proofs.lemmas.Bool.Decides.{nat_tests}
 use Rattle.psr_base.specs.Told.{Told, nothing_told}
 use Rattle.dada_model.specs.Fields.{HeaderText, header_of, fields_of}
@@ -11,7 +11,6 @@ use Rattle.search_words.specs.Settings.{SettingsSeen}
 use Rattle.disk_feeder.specs.declared.feeder.FeederSpace.{FeederSpace}
 use Rattle.disk_feeder.specs.Feeder.{headers_of}
 use Rattle.disk_feeder.specs.Resting.{at_rest}
-use Rattle.beam_set.specs.declared.space.BeamSpace.{BeamSpace}
 use Rattle.beam_set.specs.Later.{LaterHeadersAgree}
 use Rattle.disk_feeder.specs.declared.answers.HeaderCause.TheVariants.{Fields}
 use Rattle.run_outcome.specs.declared.stop.Stop.{Stop}
@@ -21,9 +20,8 @@ use Rattle.psr_beams.specs.Files.{beam_name}
 use Rattle.psr_beams.specs.Refusals.{stop_of_offset, later_stop}
 use Rattle.psr_beams.specs.Judged.{slot_header, headers_in, AreOfOne}
 use Rattle.psr_beams.specs.Feeders.{SlotBegun, AreRead, AreBegun}
-use Rattle.psr_beams.specs.Engines.{IsSpaceOf, AreSpaces}
-use Rattle.psr_beams.specs.Joined.{CanJoinSlots}
-use Rattle.psr_beams.specs.Driven.{HasSlotFile, CanRun, AreHeaders}
+use Rattle.psr_beams.specs.Joined.{CanJoinSlot, CanJoinAll}
+use Rattle.psr_beams.specs.Driven.{AreHeaders}
 use Rattle.psr_beams.proofs.Counting.{element, seen_there}
 use Rattle.psr_beams.proofs.OneFile.{first_name_is, some_of, one_there}
 
@@ -77,85 +75,65 @@ all_say law headers count o one first (suc k) within h at =
 -- ---- the feeders
 
 module _ {I : Type 0} (told : I → Told) (is_open : I → Type 0) (s : SettingsSeen) (starts : s.starts ≡ 0 ∷ []) where
-  begun_header : (name : List ℕ) (lent : I) (slot : Option FeederSpace) → SlotBegun told is_open s name lent slot →
-      IsSome (slot_header slot)
-  begun_header name lent None begun = absurd begun
-  begun_header name lent (Some space) begun =
+  begun_header : (name : List ℕ) (start lent : I) (slot : Option FeederSpace) →
+      SlotBegun told is_open s name start lent slot → IsSome (slot_header slot)
+  begun_header name start lent None begun = absurd begun
+  begun_header name start lent (Some space) begun =
       one_there (headers_of (at_rest space)) (begun.plan.headers ∙ ap length starts)
 
   -- the header that was read is that of the file
-  header_said : (name : List ℕ) (lent : I) (slot : Option FeederSpace) (h : HeaderText) (file : List ℕ) →
-      SlotBegun told is_open s name lent slot → slot_header slot ≡ Some h →
+  header_said : (name : List ℕ) (start lent : I) (slot : Option FeederSpace) (h : HeaderText) (file : List ℕ) →
+      SlotBegun told is_open s name start lent slot → slot_header slot ≡ Some h →
       (told lent).bytes_under name ≡ Some file → header_of file ≡ Ok h
-  header_said name lent None h file begun at is = absurd begun
-  header_said name lent (Some space) h file begun at is =
+  header_said name start lent None h file begun at is = absurd begun
+  header_said name start lent (Some space) h file begun at is =
       let first = begun.plan.transfers ∙ starts in
       let count = ap length first in
       let at_first = ap (told lent).bytes_under (first_name_is space.stream.source name first begun.plan.files) ∙ is in
       begun.begun.headers 0 (omega (arith, count)) file at_first h at
 
-  pub headers_there : (count : ℕ) (lent : List I) (slots : List (Option FeederSpace)) →
-      AreBegun told is_open s count lent slots → count ≤ length lent → (k : ℕ) → k < count →
+  pub headers_there : (count : ℕ) (before lent : List I) (slots : List (Option FeederSpace)) →
+      AreBegun told is_open s count before lent slots → count ≤ length lent → (k : ℕ) → k < count →
       IsSome (headers_in slots k)
-  headers_there count lent slots begun enough k within =
+  headers_there count before lent slots begun enough k within =
       let x = element lent k (omega (arith, within, enough)) in
-      begun_header (beam_name s k) (get_or lent k x) (get_or slots k None) (begun.each k x within)
+      begun_header (beam_name s k) (get_or before k x) (get_or lent k x) (get_or slots k None) (begun.each k x within)
 
   pub are_headers : (is_calm : I → Type 0) (faults : I → ℕ) (count : ℕ) (before mid : List I)
       (slots : List (Option FeederSpace)) → AreRead told is_calm faults s count before mid →
-      AreBegun told is_open s count mid slots → count ≤ length before →
+      AreBegun told is_open s count before mid slots → count ≤ length before →
       AreHeaders told s count before (headers_in slots)
   are_headers is_calm faults count before mid slots read begun enough = record {
-    there = headers_there count mid slots begun (let same = read.lent in omega (arith, same, enough));
+    there = headers_there count before mid slots begun (let same = read.lent in omega (arith, same, enough));
     each = λ k x h within at file is.
-        header_said (beam_name s k) (get_or mid k x) (get_or slots k None) h file (begun.each k x within) at
+        header_said (beam_name s k) (get_or before k x) (get_or mid k x) (get_or slots k None) h file
+        (begun.each k x within) at
         (subst (λ (under : List ℕ → Option (List ℕ)). under (beam_name s k) ≡ Some file)
         (sym (read.each k x within).read.names) is);
   }
 
-  -- ---- to run
+  -- ---- to open
 
-  can_slots : (o : Observation) (name : List ℕ) (lent : I) (at : Told) (a : Option BeamSpace)
-      (b : Option FeederSpace) → IsSomeAnd a (IsSpaceOf s o (slot_header b)) → SlotBegun told is_open s name lent b →
-      at ≡ told lent →
-      ((h : HeaderText) → slot_header b ≡ Some h → observation_of (fields_of h.text) ≡ Ok o) →
-      CanJoinSlots at s o name a b
-  can_slots o name lent at None b space begun same said = absurd space
-  can_slots o name lent at (Some p) None space begun same said = absurd begun
-  can_slots o name lent at (Some p) (Some f) space begun same said =
-      subst (λ t. CanJoinSlots t s o name (Some p) (Some f)) (sym same) (record {
-        one = starts;
-        plan = begun.plan;
-        begun = begun.begun;
-        accepted = said;
-        space_is = space;
-      })
+  can_slot : (o : Observation) (name : List ℕ) (start lent : I) (slot : Option FeederSpace) →
+      SlotBegun told is_open s name start lent slot →
+      ((h : HeaderText) → slot_header slot ≡ Some h → observation_of (fields_of h.text) ≡ Ok o) →
+      CanJoinSlot (told lent) s o name slot
+  can_slot o name start lent None begun said = absurd begun
+  can_slot o name start lent (Some f) begun said =
+      record { one = starts; plan = begun.plan; begun = begun.begun; accepted = said }
 
-  slot_file : (name : List ℕ) (lent : I) (slot : Option FeederSpace) → SlotBegun told is_open s name lent slot →
-      HasSlotFile is_open lent slot
-  slot_file name lent None begun = begun
-  slot_file name lent (Some space) begun = begun.file
-
-  pub can_run : LaterHeadersAgree → (o : Observation) (count : ℕ) (lent : List I) (spaces : List (Option BeamSpace))
+  pub can_join : LaterHeadersAgree → (o : Observation) (count : ℕ) (before lent : List I)
       (slots : List (Option FeederSpace)) → count ≤ length lent → 0 < count →
-      AreBegun told is_open s count lent slots → AreOfOne (headers_in slots) count o →
-      AreSpaces s o (headers_in slots) count spaces → CanRun told is_open s o count lent spaces slots
-  can_run law o count lent spaces slots enough some begun one are = record {
-    enough = enough;
-    joins = record {
-      spaces_many = are.many;
-      feeders_many = begun.many;
-      each = λ k within.
-          let there = below k within in
-          let x = element lent k there in
-          can_slots o (beam_name s k) (get_or lent k x) (told_at told lent k) (get_or spaces k None)
-          (get_or slots k None) (are.each k within) (begun.each k x within)
-          (seen_there told nothing_told lent k x there)
-          (all_say law (headers_in slots) count o one (headers_there count lent slots begun enough 0 some) k within);
-    };
-    files = λ k x within.
-        slot_file (beam_name s k) (get_or lent k x) (get_or slots k None) (begun.each k x within);
+      AreBegun told is_open s count before lent slots → AreOfOne (headers_in slots) count o →
+      CanJoinAll (told_at told lent) s o count slots
+  can_join law o count before lent slots enough some begun one = record {
+    many = begun.many;
+    each = λ k within.
+        let there : k < length lent = omega (arith, within, enough) in
+        let x = element lent k there in
+        subst (λ t. CanJoinSlot t s o (beam_name s k) (get_or slots k None))
+        (sym (seen_there told nothing_told lent k x there))
+        (can_slot o (beam_name s k) (get_or before k x) (get_or lent k x) (get_or slots k None) (begun.each k x within)
+        (all_say law (headers_in slots) count o one (headers_there count before lent slots begun enough 0 some) k
+        within));
   }
-    where
-      below : (k : ℕ) → k < count → k < length lent
-      below k within = omega (arith, within, enough)

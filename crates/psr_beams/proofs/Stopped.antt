@@ -1,9 +1,9 @@
 -- A search of beams that stops before its first turn: at a header that cannot be read, or where it is not opened.
-use Rattle.std.proofs.Common.{◌≡◌, ◌≢◌, ◌⊎◌, ℕ, ◌<◌, ◌≤◌, List, length, get_or, refl, sym, ap, subst, ◌∙◌, inl, inr, Option, Some, None, Ok, Contains, lit<, arith}
+use Rattle.std.proofs.Common.{◌≡◌, ◌≢◌, ◌⊎◌, ℕ, ◌<◌, ◌≤◌, List, length, get_or, refl, sym, ap, subst, ◌∙◌, inl, inr, Option, Some, None, Ok, arith}
 use Rattle.std.specs.Prelude.{IsSome}
 use Rattle.std.proofs.lemmas.Bool.{cases_lt}
 use Rattle.psr_base.specs.Inputs.{HasReadFrom}
-use Rattle.psr_base.specs.Told.{Told, nothing_told, OfFile}
+use Rattle.psr_base.specs.Told.{Told, nothing_told}
 use Rattle.psr_base.specs.Written.{SinkSeen}
 use Rattle.dada_model.specs.Fields.{HeaderText, header_of, fields_of}
 use Rattle.dada_model.specs.Laws.{AcceptedByRows}
@@ -14,26 +14,28 @@ use Rattle.disk_feeder.specs.declared.answers.HeaderCause.TheVariants.{Text, Fie
 use Rattle.run_outcome.specs.declared.stop.Stop.{Stop}
 use Rattle.run_outcome.specs.declared.stop.Stop.TheVariants.{Header, Plan, Memory, ReadFault, Gap}
 use Rattle.run_outcome.specs.Texts.{status_of}
-use Rattle.run_outcome.specs.Runs.{IsStopOfWords}
-use Rattle.run_outcome.specs.Ends.{WordsSayOnce}
-use Rattle.psr_beams.specs.Words.{SayBeams, searching_beams}
-use Rattle.psr_beams.specs.Seen.{told_at, calm_at, seen_at}
+use Rattle.psr_beams.specs.Seen.{told_at}
 use Rattle.dada_header.specs.Faults.{IsHeaderRefusal}
 use Rattle.run_outcome.specs.Firsts.{HasHeader, RefusesFields}
-use Rattle.psr_beams.specs.Files.{OfBeam, beam_name}
+use Rattle.disk_feeder.specs.Front.{BreaksAt}
+use Rattle.psr_beams.specs.Files.{ForSettings, OfBeam, beam_name, header_read}
 use Rattle.psr_beams.specs.Refusals.{later_stop, StopsByHeader}
 use Rattle.psr_beams.specs.EachBeam.{HaveHeadersAt, RefusesTextAt, AreOfOneAt, RefusesLaterAt}
 use Rattle.psr_beams.specs.Stops.{SaysOfBeams}
-use Rattle.psr_beams.specs.Outcome.{HoldsName}
+use Rattle.psr_beams.specs.Outcome.{IsHeaderRead}
 use Rattle.psr_beams.specs.Judged.{AreOfOne, RefusesZero, RefusesOne, StopsJudging}
-use Rattle.psr_beams.specs.Feeders.{StopsReading}
+use Rattle.psr_beams.specs.Feeders.{LeavesData, StopsReading}
 use Rattle.psr_beams.specs.Opened.{RefusesTheirPlan}
 use Rattle.psr_beams.specs.Driven.{AreHeaders, ReadsAll}
-use Rattle.psr_beams.specs.Ends.{Ends}
-use Rattle.psr_beams.proofs.Counting.{element, seen_there, calm_there, stood, retyped, AllRead}
+use Rattle.psr_beams.specs.Ends.{Leaves}
+use Rattle.psr_beams.proofs.Counting.{seen_there, seen_still, calm_there, stood, retyped, AllRead}
 use Rattle.psr_beams.proofs.OneFile.{some_of}
 use Rattle.psr_beams.proofs.Opening.{later_kind}
-use Rattle.psr_beams.proofs.Builders.{statuses, ends_at, judged_said, for_said, reads_quietly, reads_failing, fails_beam}
+use Rattle.psr_beams.proofs.Builders.{Over, for_said, inside, one_there, told_there, of_beam, at_files, at_memory, at_fault}
+
+-- the calls for a beam failed where it stopped for a fault of its inputs
+abbrev pub reading_failed : Stop → ℕ → ℕ → Type 0
+reading_failed stop beam k = (k ≡ beam) × (stop ≡ ReadFault)
 
 -- the observation of a file whose header says it
 pub observation_is : AcceptedByRows → (file : List ℕ) (h : HeaderText) (o : Observation) → header_of file ≡ Ok h →
@@ -42,115 +44,139 @@ unfolding observation_at
 observation_is rows file h o has said =
     ap (λ r. observation_in (fields_past r)) has ∙ sym ((rows (fields_of h.text) o).0 said).0
 
-module _ {I : Type 0} (told : I → Told) (is_calm : I → Type 0) (faults : I → ℕ) (words : List (List ℕ))
-    (once : WordsSayOnce) (s : SettingsSeen) (says : SayBeams words s) (before : List I)
-    (enough : length s.names ≤ length before) where
+module _ {I : Type 0} {told : I → Told} {is_calm : I → Type 0} {faults : I → ℕ} {words : List (List ℕ)}
+    {s : SettingsSeen} {before : List I} (run : Over told is_calm faults words s before) where
   abbrev n : ℕ
   n = length s.names
 
-  pub one_there : (k : ℕ) → k < n → I
-  one_there k below = element before k (omega (arith, below, enough))
+  -- ---- where there was no memory
 
-  -- what is told of the file of a beam is told by the inputs at its place
-  pub told_there : (k : ℕ) (x : I) → k < n → (file : List ℕ) →
-      (told_at told before k).bytes_under (beam_name s k) ≡ Some file →
-      (told (get_or before k x)).bytes_under (beam_name s k) ≡ Some file
-  told_there k x below file at = subst (λ (t : Told). t.bytes_under (beam_name s k) ≡ Some file)
-      (seen_there told nothing_told before k x (omega (arith, below, enough))) at
+  -- all data of the file of a beam are left
+  pub left_at : (after : List I) (k : ℕ) (x : I) → k < n → length after ≡ length before →
+      LeavesData (told (get_or before k x)) (beam_name s k) (told (get_or after k x)) →
+      OfBeam (told_at told before) s k (IsHeaderRead s k (told_at told before) (told_at told after))
+  left_at after k x below lent left file at =
+      let within = inside run k below in
+      seen_there told nothing_told after k x (omega (arith, within, lent))
+      ∙ left file (told_there run k x below file at)
+      ∙ ap (header_read (beam_name s k) file) (sym (seen_there told nothing_told before k x within))
 
-  -- and what holds of it there holds of it
-  pub of_beam : (k : ℕ) → k < n → (P : List ℕ → Type 0) →
-      ((x : I) → OfFile (told (get_or before k x)) (beam_name s k) P) → OfBeam (told_at told before) s k P
-  of_beam k below P holds file at =
-      let x = one_there k below in
-      holds x file (told_there k x below file at)
+  module _ (after : List I) (lent : length after ≡ length before) where
+    abbrev ReadsNone : ℕ → Type 0
+    ReadsNone k = (told_at told after k ≡ told_at told before k)
+        ⊎ ForSettings words (λ t. OfBeam (told_at told before) t k
+        (IsHeaderRead t k (told_at told before) (told_at told after)))
 
-  pub is_one : (beam : ℕ) → beam < n → (t : SettingsSeen) → SayBeams words t → beam < length t.names
-  is_one beam below t said = subst (λ (u : SettingsSeen). beam < length u.names)
-      (once searching_beams words s t says said) below
+    pub leaves_data : (k : ℕ) (x : I) → k < n →
+        LeavesData (told (get_or before k x)) (beam_name s k) (told (get_or after k x)) → ReadsNone k
+    leaves_data k x below left = inr (for_said run (λ t. OfBeam (told_at told before) t k
+        (IsHeaderRead t k (told_at told before) (told_at told after))) (left_at after k x below lent left))
 
-  pub at_settings : (P : SettingsSeen → Type 0) → P s → (t : SettingsSeen) → SayBeams words t → P t
-  at_settings P p t said = subst P (once searching_beams words s t says said) p
+    pub stands_still : (k : ℕ) → ((x : I) → get_or after k x ≡ get_or before k x) → ReadsNone k
+    stands_still k same = inl (seen_still told nothing_told before after k lent same)
 
   -- ---- a header that cannot be read
 
-  module _ (after : List I) where
-    abbrev pub reading_failed : Stop → ℕ → ℕ → Type 0
-    reading_failed stop beam k = (k ≡ beam) × (stop ≡ ReadFault)
+  module _ {after : List I} where
+    module _ (stop : Stop) (r : StopsReading told is_calm faults s before after stop) where
+      pub all_read : AllRead told is_calm faults (reading_failed stop r.beam) before after
+      all_read = record {
+        lent = r.lent;
+        each = λ k x. elim (cases_lt k r.beam) [
+          | inl less ↦
+              let not : reading_failed stop r.beam k → ⊥ = λ p. let same = p.0 in omega (arith, same, less) in
+              retyped told is_calm faults ⊥ (reading_failed stop r.beam k) _ _ (λ e. absurd e) not
+              (r.earlier k x less).read
+          | inr over ↦ elim (cases_lt r.beam k) [
+            | inl more ↦
+                let not : reading_failed stop r.beam k → ⊥ = λ p. let same = p.0 in omega (arith, same, more) in
+                stood told is_calm faults (reading_failed stop r.beam k) _ _ not (r.others k x more)
+            | inr under ↦
+                let same : r.beam ≡ k = omega (arith, over, under) in
+                let P : ℕ → Type 0 = λ j. HasReadFrom told is_calm faults (reading_failed stop r.beam j)
+                (get_or before j x) (get_or after j x) in
+                subst P same (retyped told is_calm faults (stop ≡ ReadFault) (reading_failed stop r.beam r.beam) _ _
+                (λ e. (refl, e)) (λ p. p.1) (r.fails x).read)
+          ]
+        ];
+      }
 
-    pub all_read : (stop : Stop) (r : StopsReading told is_calm faults s before after stop) →
-        AllRead told is_calm faults (reading_failed stop r.beam) before after
-    all_read stop r = record {
-      lent = r.lent;
-      each = λ k x. elim (cases_lt k r.beam) [
-        | inl less ↦
-            let not : reading_failed stop r.beam k → ⊥ = λ p. let same = p.0 in omega (arith, same, less) in
-            retyped told is_calm faults ⊥ (reading_failed stop r.beam k) _ _ (λ e. absurd e) not
-            (r.earlier k x less).read
-        | inr over ↦ elim (cases_lt r.beam k) [
-          | inl more ↦
-              let not : reading_failed stop r.beam k → ⊥ = λ p. let same = p.0 in omega (arith, same, more) in
-              stood told is_calm faults (reading_failed stop r.beam k) _ _ not (r.others k x more)
-          | inr under ↦
-              let same : r.beam ≡ k = omega (arith, over, under) in
-              let P : ℕ → Type 0 = λ j. HasReadFrom told is_calm faults (reading_failed stop r.beam j)
-              (get_or before j x) (get_or after j x) in
-              subst P same (retyped told is_calm faults (stop ≡ ReadFault) (reading_failed stop r.beam r.beam) _ _
-              (λ e. (refl, e)) (λ p. p.1) (r.fails x).read)
-        ]
-      ];
-    }
-
-    quiet_unless : (stop : Stop) (r : StopsReading told is_calm faults s before after stop) → stop ≢ ReadFault →
-        (k : ℕ) → ¬ reading_failed stop r.beam k
-    quiet_unless stop r not k p = not p.1
-
-    pub texts : (stop : Stop) (r : StopsReading told is_calm faults s before after stop) →
-        HaveHeadersAt (told_at told before) s r.beam
-    texts stop r k less =
-        let there = r.there in
-        of_beam k (omega (arith, less, there)) HasHeader (λ x. (r.earlier k x less).text)
-
-    module _ (out out' : SinkSeen) (same : out' ≡ out) where
-      pub reading_ends : (stop : Stop) → StopsReading told is_calm faults s before after stop →
-          Ends words (seen_at told faults before after) (calm_at is_calm before) out out' (Some stop)
-      reading_ends (Header file (Text fault)) r =
-          let x = one_there r.beam r.there in
-          let said = (r.fails x).says in
-          ends_at words _ _ out out' (Header file (Text fault)) (2, lit< tt, refl) (λ e. omega (arith, e))
-          (λ e. omega (arith, e)) same (judged_said words s 3 says (λ e. omega (arith, e)))
-          (reads_quietly told is_calm faults words _ before after (all_read (Header file (Text fault)) r) 3
-          (λ e. omega (arith, e)) (λ e. omega (arith, e)) (quiet_unless (Header file (Text fault)) r (λ e. cc)))
-          tt (for_said words (told_at told before) once s says
-          (λ t. SaysOfBeams (told_at told before) t (Header file (Text fault)))
-          (subst (λ k. RefusesTextAt (told_at told before) s k fault) (sym said.0) (record {
-            there = r.there;
-            refused = of_beam r.beam r.there (λ bytes. IsHeaderRefusal bytes fault) (λ y. (r.fails y).says.1);
-            earlier = texts (Header file (Text fault)) r;
-          })))
-      reading_ends Memory r =
-          ends_at words _ _ out out' Memory (4, lit< tt, refl) (λ e. omega (arith, e)) (λ e. omega (arith, e)) same
-          (judged_said words s 5 says (λ e. omega (arith, e)))
-          (reads_quietly told is_calm faults words _ before after (all_read Memory r) 5 (λ e. omega (arith, e))
-          (λ e. omega (arith, e))
-          (quiet_unless Memory r (λ e. cc))) tt (λ t said. tt)
-      reading_ends ReadFault r =
+      texts : HaveHeadersAt (told_at told before) s r.beam
+      texts k less =
           let there = r.there in
-          let x = one_there r.beam r.there in
-          let within : r.beam < length before = omega (arith, there, enough) in
-          ends_at words _ _ out out' ReadFault (5, lit< tt, refl) (λ e. omega (arith, e)) (λ e. omega (arith, e)) same
-          (judged_said words s 6 says (λ e. omega (arith, e)))
-          (reads_failing told is_calm faults words _ before after (all_read ReadFault r)
-          (fails_beam told is_calm faults words _ before after (all_read ReadFault r) r.beam within
-          (is_one r.beam r.there) (refl, refl) (λ k less p. let e = p.0 in omega (arith, e, less))
-          (λ calm. at_settings (λ t. HoldsName (told_at told before r.beam) t r.beam → ⊥) (λ holds.
-          (r.fails x).serves (calm_there is_calm before r.beam x within calm)
-          (subst (λ (t : Told). IsSome (t.bytes_under (beam_name s r.beam)))
-          (seen_there told nothing_told before r.beam x within) holds) refl))
-          (for_said words (told_at told before) once s says
-          (λ t. HaveHeadersAt (told_at told before) t r.beam) (texts ReadFault r))))
-          tt (λ t said. tt)
-      reading_ends stop r = absurd (r.fails (one_there r.beam r.there)).says
+          of_beam run k (omega (arith, less, there)) HasHeader (λ x. (r.earlier k x less).text)
+
+      earlier_left : (k : ℕ) → k < r.beam → (x : I) →
+          OfBeam (told_at told before) s k (IsHeaderRead s k (told_at told before) (told_at told after))
+      earlier_left k less x =
+          let there = r.there in
+          left_at after k x (omega (arith, less, there)) r.lent (r.earlier k x less).left
+
+    -- no data were read
+    reading_none : (r : StopsReading told is_calm faults s before after Memory) → (k : ℕ) → ReadsNone after r.lent k
+    reading_none r k = elim (cases_lt k r.beam) [
+      | inl less ↦
+          let there = r.there in
+          let below : k < n = omega (arith, less, there) in
+          let x = one_there run k below in
+          leaves_data after r.lent k x below (r.earlier k x less).left
+      | inr over ↦ elim (cases_lt r.beam k) [
+        | inl more ↦ stands_still after r.lent k (λ x. r.others k x more)
+        | inr under ↦
+            let same : r.beam ≡ k = omega (arith, over, under) in
+            let x = one_there run r.beam r.there in
+            subst (ReadsNone after r.lent) same (by_cause x ((r.fails x).unread refl))
+      ]
+    ]
+      where
+        by_cause : (x : I) → (told (get_or after r.beam x) ≡ told (get_or before r.beam x))
+            ⊎ LeavesData (told (get_or before r.beam x)) (beam_name s r.beam) (told (get_or after r.beam x)) →
+            ReadsNone after r.lent r.beam
+        by_cause x (inl still) =
+            let lent = r.lent in
+            let within = inside run r.beam r.there in
+            inl (seen_there told nothing_told after r.beam x (omega (arith, within, lent)) ∙ still
+            ∙ sym (seen_there told nothing_told before r.beam x within))
+        by_cause x (inr left) = leaves_data after r.lent r.beam x r.there left
+
+    pub reading_ends : {out out' : SinkSeen} → out' ≡ out → (stop : Stop) →
+        StopsReading told is_calm faults s before after stop →
+        Leaves told is_calm faults words before after out out' (Some stop)
+    reading_ends same (Header file (Text fault)) r =
+        let said = (r.fails (one_there run r.beam r.there)).says in
+        at_files run (all_read (Header file (Text fault)) r) same (Header file (Text fault)) (omega arith) (omega arith)
+        (λ e. omega (arith, e)) (λ e. omega (arith, e)) (λ e. omega (arith, e)) (λ k p. let e = p.1 in cc)
+        (subst (λ k. RefusesTextAt (told_at told before) s k fault) (sym said.0) (record {
+          there = r.there;
+          refused = of_beam run r.beam r.there (λ bytes. IsHeaderRefusal bytes fault) (λ y. (r.fails y).says.1);
+          earlier = texts (Header file (Text fault)) r;
+        }))
+    reading_ends same Memory r =
+        at_memory run (all_read Memory r) same (λ k p. let e = p.1 in cc) (reading_none r)
+    reading_ends same ReadFault r =
+        let there = r.there in
+        let lent = r.lent in
+        let within = inside run r.beam there in
+        let x = one_there run r.beam there in
+        let name = beam_name s r.beam in
+        at_fault run (all_read ReadFault r) same r.beam there (refl, refl)
+        (λ k less p. let e = p.0 in omega (arith, e, less))
+        (λ calm holds. (r.fails x).serves (calm_there is_calm before r.beam x within calm)
+        (subst (λ (t : Told). IsSome (t.bytes_under name)) (seen_there told nothing_told before r.beam x within) holds)
+        refl)
+        (texts ReadFault r)
+        (inl (record {
+          headers = texts ReadFault r;
+          read = λ k less. earlier_left ReadFault r k less (one_there run k (omega (arith, less, there)));
+          broke = λ file at.
+              subst (λ t. BreaksAt name file t (told_at told after r.beam))
+              (sym (seen_there told nothing_told before r.beam x within))
+              (subst (λ t. BreaksAt name file (told (get_or before r.beam x)) t)
+              (sym (seen_there told nothing_told after r.beam x (omega (arith, within, lent))))
+              ((r.fails x).broke refl file (told_there run r.beam x there file at)));
+          others = λ k more. seen_still told nothing_told before after k lent (λ y. r.others k y more);
+        }))
+    reading_ends same stop r = absurd (r.fails (one_there run r.beam r.there)).says
 
   -- ---- all headers were read
 
@@ -162,7 +188,7 @@ module _ {I : Type 0} (told : I → Told) (is_calm : I → Type 0) (faults : I �
         let h = some_of (headers k) (are.there k below) in (
           h.0,
           h.1,
-          of_beam k below (λ file. header_of file ≡ Ok h.0) (λ x. are.each k x h.0 below h.1),
+          of_beam run k below (λ file. header_of file ≡ Ok h.0) (λ x. are.each k x h.0 below h.1),
         )
 
     pub all_heads : (count : ℕ) → count ≤ n → HaveHeadersAt (told_at told before) s count
@@ -173,14 +199,14 @@ module _ {I : Type 0} (told : I → Told) (is_calm : I → Type 0) (faults : I �
     -- by the header of a file, what stops a beam stops its file
     pub stops_by : (o : Observation) (k : ℕ) (stop : Option Stop) (h : HeaderText) → k < n → headers k ≡ Some h →
         later_stop k o h ≡ stop → OfBeam (told_at told before) s k (StopsByHeader o k stop)
-    stops_by o k stop h below at is = of_beam k below (StopsByHeader o k stop)
+    stops_by o k stop h below at is = of_beam run k below (StopsByHeader o k stop)
         (λ x file there. record { header = h; has = are.each k x h below at file there; stops = is })
 
-    pub are_of_one : AcceptedByRows → (o : Observation) (count : ℕ) → 0 < n → count ≤ n → AreOfOne headers count o →
+    pub are_of_one : AcceptedByRows → (o : Observation) (count : ℕ) → count ≤ n → AreOfOne headers count o →
         AreOfOneAt (told_at told before) s count o
-    are_of_one rows o count some few one = record {
+    are_of_one rows o count few one = record {
       first = λ file at.
-          let h = head 0 some in
+          let h = head 0 run.some in
           let has = h.2 file at in
           let said = one.first h.0 h.1 in
           record {
@@ -195,10 +221,10 @@ module _ {I : Type 0} (told : I → Told) (is_calm : I → Type 0) (faults : I �
 
   -- ---- it was not opened
 
-  module _ (rows : AcceptedByRows) (some : 0 < n) (after : List I) (headers : ℕ → Option HeaderText)
-      (read : ReadsAll told is_calm faults s before after headers) (out out' : SinkSeen) (same : out' ≡ out) where
-    pub header_read : AllRead told is_calm faults (λ k. ⊥) before after
-    header_read = record {
+  module _ (rows : AcceptedByRows) {after : List I} {headers : ℕ → Option HeaderText}
+      (read : ReadsAll told is_calm faults s before after headers) {out out' : SinkSeen} (same : out' ≡ out) where
+    header_read_all : AllRead told is_calm faults (λ k. ⊥) before after
+    header_read_all = record {
       lent = read.read.lent;
       each = λ k x. elim (cases_lt k n) [
         | inl less ↦ (read.read.each k x less).read
@@ -206,37 +232,34 @@ module _ {I : Type 0} (told : I → Told) (is_calm : I → Type 0) (faults : I �
       ];
     }
 
-    abbrev EndsAt : Stop → Type 0
-    EndsAt stop = Ends words (seen_at told faults before after) (calm_at is_calm before) out out' (Some stop)
+    abbrev LeftAt : Stop → Type 0
+    LeftAt stop = Leaves told is_calm faults words before after out out' (Some stop)
 
-    quietly : (stop : Stop) → Contains statuses (status_of stop) → status_of stop ≢ 0 → status_of stop ≢ 2 →
-        status_of stop ≢ 6 → status_of stop ≢ 8 → status_of stop ≢ 10 → IsStopOfWords searching_beams words stop →
-        SaysOfBeams (told_at told before) s stop → EndsAt stop
-    quietly stop known zeroth second six eighth tenth cause is = ends_at words _ _ out out' stop known zeroth tenth same
-        (judged_said words s (status_of stop) says second)
-        (reads_quietly told is_calm faults words (λ k. ⊥) before after header_read (status_of stop) six eighth
-        (λ k e. e))
-        cause
-        (for_said words (told_at told before) once s says (λ t. SaysOfBeams (told_at told before) t stop) is)
+    refused : (stop : Stop) → 3 ≤ status_of stop → status_of stop ≤ 9 → status_of stop ≢ 5 → status_of stop ≢ 6 →
+        status_of stop ≢ 8 → SaysOfBeams (told_at told before) s stop → LeftAt stop
+    refused stop least most five six eight is =
+        at_files run header_read_all same stop least most five six eight (λ k e. e) is
 
-    no_memory : EndsAt Memory
-    no_memory = quietly Memory (4, lit< tt, refl) (λ e. omega (arith, e)) (λ e. omega (arith, e))
-        (λ e. omega (arith, e)) (λ e. omega (arith, e)) (λ e. omega (arith, e)) tt tt
+    no_memory : LeftAt Memory
+    no_memory = at_memory run header_read_all same (λ k e. e) (λ k. elim (cases_lt k n) [
+      | inl less ↦
+          let x = one_there run k less in
+          leaves_data after read.read.lent k x less (read.read.each k x less).left
+      | inr over ↦ stands_still after read.read.lent k (λ x. read.read.others k x over)
+    ])
 
     all_texts : HaveHeadersAt (told_at told before) s n
     all_texts = all_heads headers read.are n (omega arith)
 
-    zero_refused : (stop : Stop) → RefusesZero headers stop → EndsAt stop
-    zero_refused stop r = subst EndsAt (sym r.is) (quietly (Header 0 (Fields r.fault)) (2, lit< tt, refl)
-        (λ e. omega (arith, e))
-        (λ e. omega (arith, e)) (λ e. omega (arith, e)) (λ e. omega (arith, e)) (λ e. omega (arith, e)) tt
-        (inl (
+    zero_refused : (stop : Stop) → RefusesZero headers stop → LeftAt stop
+    zero_refused stop r = subst LeftAt (sym r.is) (refused (Header 0 (Fields r.fault)) (omega arith) (omega arith)
+        (λ e. omega (arith, e)) (λ e. omega (arith, e)) (λ e. omega (arith, e)) (inl (
           refl,
           record {
             texts = all_texts;
-            refused = of_beam 0 some (λ file. RefusesFields file r.fault) (λ x file at. record {
+            refused = of_beam run 0 run.some (λ file. RefusesFields file r.fault) (λ x file at. record {
               header = r.header;
-              has = read.are.each 0 x r.header some r.has file at;
+              has = read.are.each 0 x r.header run.some r.has file at;
               cause = r.cause;
             });
           },
@@ -251,41 +274,37 @@ module _ {I : Type 0} (told : I → Told) (is_calm : I → Type 0) (faults : I �
           there = r.there;
           later = λ file at. r.later;
           observation = o;
-          earlier = are_of_one headers read.are rows o r.beam some (omega (arith, there)) (record {
+          earlier = are_of_one headers read.are rows o r.beam (omega (arith, there)) (record {
             first = first;
             later = λ k h pos less is. r.earlier k h pos less is;
           });
           refused = stops_by headers read.are o r.beam (Some stop) r.header r.there r.has r.refused;
         }
 
-    one_refused : (stop : Stop) → RefusesOne headers n stop → EndsAt stop
+    one_refused : (stop : Stop) → RefusesOne headers n stop → LeftAt stop
     one_refused stop (o, first, r) = elim (later_kind r.beam o r.header stop r.refused) [
       | inl fields ↦
-          let at = Header r.beam (Fields fields.0) in
-          subst EndsAt (sym fields.1) (quietly at (2, lit< tt, refl) (λ e. omega (arith, e))
-          (λ e. omega (arith, e)) (λ e. omega (arith, e)) (λ e. omega (arith, e)) (λ e. omega (arith, e)) tt
+          subst LeftAt (sym fields.1) (refused (Header r.beam (Fields fields.0)) (omega arith) (omega arith)
+          (λ e. omega (arith, e)) (λ e. omega (arith, e)) (λ e. omega (arith, e))
           (inr (subst (λ x. RefusesLaterAt (told_at told before) s r.beam x) fields.1
           (later_refused stop (o, first, r)))))
       | inr gap ↦
-          let at = Gap r.beam o.obs_offset gap.0 in
-          subst EndsAt (sym gap.1) (quietly at (6, lit< tt, refl) (λ e. omega (arith, e))
-          (λ e. omega (arith, e)) (λ e. omega (arith, e)) (λ e. omega (arith, e)) (λ e. omega (arith, e)) tt
+          subst LeftAt (sym gap.1) (refused (Gap r.beam o.obs_offset gap.0) (omega arith) (omega arith)
+          (λ e. omega (arith, e)) (λ e. omega (arith, e)) (λ e. omega (arith, e))
           (subst (λ x. RefusesLaterAt (told_at told before) s r.beam x) gap.1 (later_refused stop (o, first, r))))
     ]
 
-    plan_refused : (stop : Stop) → RefusesTheirPlan s.search headers n stop → EndsAt stop
-    plan_refused stop r = subst EndsAt (sym r.is) (quietly (Plan r.cause) (3, lit< tt, refl)
-        (λ e. omega (arith, e)) (λ e. omega (arith, e))
-        (λ e. omega (arith, e)) (λ e. omega (arith, e)) (λ e. omega (arith, e)) tt
-        (record {
+    plan_refused : (stop : Stop) → RefusesTheirPlan s.search headers n stop → LeftAt stop
+    plan_refused stop r = subst LeftAt (sym r.is) (refused (Plan r.cause) (omega arith) (omega arith)
+        (λ e. omega (arith, e)) (λ e. omega (arith, e)) (λ e. omega (arith, e)) (record {
           observation = r.observation;
-          accepted = are_of_one headers read.are rows r.observation n some (omega arith) r.accepted;
+          accepted = are_of_one headers read.are rows r.observation n (omega arith) r.accepted;
           refused = r.refused;
         }))
 
     pub not_opened : (stop : Stop) → StopsJudging headers n stop ⊎ RefusesTheirPlan s.search headers n stop →
-        EndsAt stop
-    not_opened stop (inl (inl memory)) = subst EndsAt (sym memory) no_memory
+        LeftAt stop
+    not_opened stop (inl (inl memory)) = subst LeftAt (sym memory) no_memory
     not_opened stop (inl (inr (inl zeroth))) = zero_refused stop zeroth
     not_opened stop (inl (inr (inr later))) = one_refused stop later
     not_opened stop (inr plan) = plan_refused stop plan

@@ -1,10 +1,9 @@
 -- How a search of beams ends at its words, and what the notes took.
-use Rattle.std.proofs.Common.{◌≡◌, ◌≢◌, ℕ, List, refl, sym, subst, Some, None, lit<, arith}
+use Rattle.std.proofs.Common.{◌≡◌, ◌≢◌, ◌≤◌, ℕ, List, refl, sym, ap, subst, inl, Some, None, arith}
 use Rattle.std.specs.Prelude.{Option, IfSome}
 use Rattle.psr_base.specs.Told.{Told, nothing_told, InputsSeen}
 use Rattle.psr_base.specs.Made.{FilesSeen}
 use Rattle.psr_base.specs.Written.{SinkSeen, Noted}
-use Rattle.search_words.specs.Settings.{SettingsSeen}
 use Rattle.search_words.specs.declared.fault.WordFault.{WordFault}
 use Rattle.search_words.specs.declared.fault.WordFault.TheVariants as fault
 use Rattle.run_outcome.specs.declared.stop.Stop.{Stop}
@@ -13,12 +12,14 @@ use Rattle.run_outcome.specs.Conversions.{stop_of_words}
 use Rattle.run_outcome.specs.Texts.{status_of, note_of}
 use Rattle.run_outcome.specs.Runs.{Explains}
 use Rattle.run_outcome.specs.Ends.{end_status, EndAtWords}
-use Rattle.psr_beams.specs.Words.{SayBeams, searching_beams}
-use Rattle.psr_beams.specs.Seen.{told_in, calm_at, seen_at}
+use Rattle.psr_beams.specs.Words.{searching_beams}
+use Rattle.psr_beams.specs.Seen.{told_in, told_at}
+use Rattle.psr_beams.specs.Files.{ForSettings}
+use Rattle.psr_beams.specs.Stops.{SaysOfBeams}
 use Rattle.psr_beams.specs.Outcome.{Outcome, NotesBeams}
-use Rattle.psr_beams.specs.Ends.{Ends, IsSaid}
+use Rattle.psr_beams.specs.Ends.{Ends, IsSaid, Leaves}
 use Rattle.psr_beams.proofs.Counting.{stood, AllRead}
-use Rattle.psr_beams.proofs.Builders.{ends_at, reads_quietly}
+use Rattle.psr_beams.proofs.Builders.{no_stop, ends_at, reads_quietly}
 
 -- ---- at the words
 
@@ -29,47 +30,39 @@ abbrev no_inputs : InputsSeen
 no_inputs = record { told = nothing_told; faults_before = 0; faults_after = 0 }
 
 module _ {I : Type 0} (told : I → Told) (is_calm : I → Type 0) (faults : I → ℕ) (words : List (List ℕ))
-    (lent : List I) where
+    (lent : List I) (calm : Type 0) (law : EndAtWords calm) (out : SinkSeen) where
   none_read : AllRead told is_calm faults (λ k. ⊥) lent lent
   none_read = record { lent = refl; each = λ k x. stood told is_calm faults ⊥ _ _ (λ e. e) refl }
 
-  module _ (calm : Type 0) (law : EndAtWords calm) (out : SinkSeen) where
-    abbrev EndsAt : Stop → Type 0
-    EndsAt stop = Ends words (seen_at told faults lent lent) (calm_at is_calm lent) out out (Some stop)
+  abbrev LeftAt : Stop → Type 0
+  LeftAt stop = Leaves told is_calm faults words lent lent out out (Some stop)
 
-    ends_by : (f : WordFault) → Explains searching_beams words f → EndsAt (stop_of_words f)
-    ends_by fault.Refused why =
-        let e = law searching_beams words no_inputs no_files fault.Refused Words why refl refl in
-        ends_at words _ _ out out Words (1, lit< tt, refl) (λ x. omega (arith, x)) (λ x. omega (arith, x)) refl
-        e.run.judged (reads_quietly told is_calm faults words (λ k. ⊥) lent lent none_read 2 (λ x. omega (arith, x))
-        (λ x. omega (arith, x)) (λ k x. x)) e.said.0 (λ s says. tt)
-    ends_by (fault.OutOfRange opt) why =
-        let e = law searching_beams words no_inputs no_files (fault.OutOfRange opt) (Value opt) why
-        refl refl in
-        ends_at words _ _ out out (Value opt) (1, lit< tt, refl) (λ x. omega (arith, x)) (λ x. omega (arith, x)) refl
-        e.run.judged (reads_quietly told is_calm faults words (λ k. ⊥) lent lent none_read 2 (λ x. omega (arith, x))
-        (λ x. omega (arith, x)) (λ k x. x)) e.said.0 (λ s says. tt)
-    ends_by fault.Memory why =
-        let e = law searching_beams words no_inputs no_files fault.Memory Memory why refl refl in
-        ends_at words _ _ out out Memory (4, lit< tt, refl) (λ x. omega (arith, x)) (λ x. omega (arith, x)) refl
-        e.run.judged (reads_quietly told is_calm faults words (λ k. ⊥) lent lent none_read 5 (λ x. omega (arith, x))
-        (λ x. omega (arith, x)) (λ k x. x)) tt (λ s says. tt)
+  -- by the law of runs, whose inputs are not read
+  ends_by : (f : WordFault) → Explains searching_beams words f → (stop : Stop) → stop ≡ stop_of_words f →
+      status_of stop ≤ 9 → status_of stop ≢ 6 → status_of stop ≢ 8 → ForSettings words (λ s. SaysOfBeams
+      (told_at told lent) s stop) → LeftAt stop
+  ends_by f why stop is most six eight says =
+      let e = law searching_beams words no_inputs no_files f stop why is refl in
+      record {
+        ends = ends_at words _ _ out out stop most refl e.run.judged
+            (reads_quietly words none_read (status_of stop) six eight (λ k x. x)) e.said.0 says;
+        early = λ x k. inl refl;
+        order = λ x. absurd (six (ap end_status x));
+      }
 
-    pub at_words : (f : WordFault) (stop : Stop) → Explains searching_beams words f → stop ≡ stop_of_words f →
-        EndsAt stop
-    at_words f stop why is = subst EndsAt (sym is) (ends_by f why)
-
--- words that say settings are not refused
-module _ (words : List (List ℕ)) where
-  pub not_refused : (inputs : ℕ → InputsSeen) (is_calm : ℕ → Type 0) (out out' : SinkSeen) (stop : Option Stop)
-      (s : SettingsSeen) → SayBeams words s → Ends words inputs is_calm out out' stop → end_status stop ≡ 2 → ⊥
-  not_refused inputs is_calm out out' stop s says e two = e.judged.refused two s says
+  pub at_words : (f : WordFault) (stop : Stop) → Explains searching_beams words f → stop ≡ stop_of_words f →
+      LeftAt stop
+  at_words f stop why is = subst LeftAt (sym is) (by_fault f why)
+    where
+      by_fault : (g : WordFault) → Explains searching_beams words g → LeftAt (stop_of_words g)
+      by_fault fault.Refused w = ends_by fault.Refused w Words refl (omega arith) (λ e. omega (arith, e))
+          (λ e. omega (arith, e)) (λ s says. tt)
+      by_fault (fault.OutOfRange opt) w = ends_by (fault.OutOfRange opt) w (Value opt) refl (omega arith)
+          (λ e. omega (arith, e)) (λ e. omega (arith, e)) (λ s says. tt)
+      by_fault fault.Memory w = ends_by fault.Memory w Memory refl (omega arith) (λ e. omega (arith, e))
+          (λ e. omega (arith, e)) (λ s says. tt)
 
 -- ---- the notes
-
-no_stop : (stop : Stop) → status_of stop ≢ 0
-no_stop Words e = omega (arith, e)
-no_stop stop e = omega (arith, e)
 
 module _ (words : List (List ℕ)) (inputs : ℕ → InputsSeen) (is_calm : ℕ → Type 0)
     (out out' notes notes' : SinkSeen) where

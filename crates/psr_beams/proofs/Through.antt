@@ -22,37 +22,34 @@ use Rattle.beam_set.specs.Laws.{HoldsData, BeamsHoldData}
 use Rattle.beam_set.specs.Later.{LaterHeadersAgree}
 use Rattle.beam_set.specs.Searched.{searched_beams_text}
 use Rattle.run_outcome.specs.declared.stop.Stop.{Stop}
-use Rattle.run_outcome.specs.declared.stop.Stop.TheVariants.{Header, ReadFault, Gap, TooLong, TooMany, SinkFault}
-use Rattle.run_outcome.specs.Ends.{WordsSayOnce}
+use Rattle.run_outcome.specs.declared.stop.Stop.TheVariants.{Header, Memory, ReadFault, Gap, TooLong, TooMany, SinkFault}
 use Rattle.run_outcome.specs.Runs.{stop_of_walk}
-use Rattle.psr_beams.specs.Words.{SayBeams, within_in, more_in}
+use Rattle.psr_beams.specs.Words.{within_in, more_in}
 use Rattle.psr_beams.specs.Seen.{told_at, calm_at, seen_at}
 use Rattle.psr_beams.specs.Files.{AreBeamsTold, ForBeams, ForSettings, beam_file, beam_name, beams_observation, IsReadOn}
 use Rattle.psr_beams.specs.Found.{HaveText}
 use Rattle.psr_beams.specs.EachBeam.{HaveHeadersAt, AreOfOneAt, RefusesLaterAt, CanSearchAt, IsWholeFile, AreWholeAt, IsTooLongFile, StopsBeamAt, count_of, AreFewAt, HasTooManyAt, AreSearchedAt}
 use Rattle.psr_beams.specs.Stops.{SaysOfBeams}
-use Rattle.psr_beams.specs.Outcome.{HoldsName, ReadsHeadersTo, ReadsDataTo, FailsFirst, IsTooLong, ReadsBeams}
+use Rattle.psr_beams.specs.Outcome.{IsTooLong, ReadsBeams}
 use Rattle.psr_beams.specs.Judged.{AreOfOne}
 use Rattle.psr_beams.specs.Driven.{HasCome, HasSlotCome, HaveCome, SlotBreaks, HaveBroken, ReadsAll}
-use Rattle.psr_beams.specs.Ends.{Ends, stop_at_data, stop_at_header, slot_stop, stop_in, counted_in, StopsBy, NoneStopsBy, StopsFirst, NoneStops, CountsTooMany, NoneCountsTooMany, WritesFound, EndsWritten, EndsBeams}
+use Rattle.psr_beams.specs.Ends.{Ends, stop_at_data, stop_at_header, slot_stop, stop_in, counted_in, StopsBy, NoneStopsBy, StopsFirst, NoneStops, CountsTooMany, NoneCountsTooMany, WritesFound, EndsWritten, EndsBeams, Leaves}
 use Rattle.psr_beams.proofs.Counting.{seen_there, calm_there, stood, read_on, still, AllRead}
 use Rattle.psr_beams.proofs.Ended.{counted_is}
-use Rattle.psr_beams.proofs.Builders.{ends_at, judged_said, for_said, for_settings, searched_at, reads_quietly, reads_failing, reads_long, fails_beam, fails_first}
-use Rattle.psr_beams.proofs.Stopped.{told_there, one_there, is_one, at_settings, head, all_heads, are_of_one}
+use Rattle.psr_beams.proofs.Builders.{Over, searched_at, judged_said, for_said, for_settings, reads_quietly, inside, one_there, told_there, at_files, at_long, at_fault}
+use Rattle.psr_beams.proofs.Stopped.{head, all_heads, are_of_one}
 use Rattle.psr_beams.proofs.Together.{searched}
 use Rattle.psr_beams.proofs.Opening.{all_say}
 use Rattle.psr_beams.proofs.Walked.{walk_kind, EndKind, end_kind, past, slot_failed, fails_stop, slot_failing, stopped_failing, stopped_long, all_data}
 
 -- ---- how it ends
 
-module _ {I : Type 0} (told : I → Told) (is_calm : I → Type 0) (faults : I → ℕ) (words : List (List ℕ))
-    (once : WordsSayOnce) (rows : AcceptedByRows) (law : FirstFilesContinue) (agree : LaterHeadersAgree)
-    (s : SettingsSeen) (says : SayBeams words s) (before mid after : List I) (enough : length s.names ≤ length before)
-    (some : 0 < length s.names) (headers : ℕ → Option HeaderText)
-    (read : ReadsAll told is_calm faults s before mid headers) (o : Observation)
+module _ {I : Type 0} {told : I → Told} {is_calm : I → Type 0} {faults : I → ℕ} {words : List (List ℕ)}
+    {s : SettingsSeen} {before : List I} (run : Over told is_calm faults words s before) (rows : AcceptedByRows)
+    (law : FirstFilesContinue) (agree : LaterHeadersAgree) {mid after : List I} {headers : ℕ → Option HeaderText}
+    (read : ReadsAll told is_calm faults s before mid headers) {o : Observation}
     (accepted : AreOfOne headers (length s.names) o) (fits : plan_refusal o s.search ≡ None)
-    (ends : List (Option BeamEnd))
-    (come : HaveCome told is_calm faults s o (length s.names) mid after ends) where
+    {ends : List (Option BeamEnd)} (come : HaveCome told is_calm faults s o (length s.names) mid after ends) where
   abbrev n : ℕ
   n = length s.names
 
@@ -95,14 +92,13 @@ module _ {I : Type 0} (told : I → Told) (is_calm : I → Type 0) (faults : I �
   -- ---- the headers
 
   of_one : (count : ℕ) → count ≤ n → AreOfOneAt (told_at told before) s count o
-  of_one count few = are_of_one told is_calm faults words once s says before enough headers read.are rows o count some
-      few (record {
-        first = accepted.first;
-        later = λ k h pos less at. accepted.later k h pos (omega (arith, less, few)) at;
-      })
+  of_one count few = are_of_one run headers read.are rows o count few (record {
+    first = accepted.first;
+    later = λ k h pos less at. accepted.later k h pos (omega (arith, less, few)) at;
+  })
 
   texts : (count : ℕ) → count ≤ n → HaveHeadersAt (told_at told before) s count
-  texts = all_heads told is_calm faults words once s says before enough headers read.are
+  texts = all_heads run headers read.are
 
   abbrev begins : CanSearchAt (told_at told before) s
   begins = record { observation = o; accepted = of_one n (omega arith); fits = fits }
@@ -113,19 +109,19 @@ module _ {I : Type 0} (told : I → Told) (is_calm : I → Type 0) (faults : I �
       (at : (told_at told before k).bytes_under (beam_name s k) ≡ Some file) where
     file_accepted : IsAccepted file
     file_accepted =
-        let h = head told is_calm faults words once s says before enough headers read.are k below in
+        let h = head run headers read.are k below in
         record {
           header = h.0;
           observation = o;
           is_header = h.2 file at;
-          is_observation = all_say agree headers n o accepted (read.are.there 0 some) k below h.0 h.1;
+          is_observation = all_say agree headers n o accepted (read.are.there 0 run.some) k below h.0 h.1;
         }
 
     -- the inputs at its place tell it, once the headers were read
     told_mid : (x : I) → (told (get_or mid k x)).bytes_under (beam_name s k) ≡ Some file
     told_mid x = subst (λ (under : List ℕ → Option (List ℕ)). under (beam_name s k) ≡ Some file)
         (sym (read.read.each k x below).read.names)
-        (told_there told is_calm faults words once s says before enough k x below file at)
+        (told_there run k x below file at)
 
     kind_of : (x y : I) → (told x).bytes_under (beam_name s k) ≡ Some file → (end : BeamEnd) →
         HasCome told is_calm faults s o (beam_name s k) x y end → end.feed ≢ feed.ReadFault → EndKind s file end.feed
@@ -157,7 +153,7 @@ module _ {I : Type 0} (told : I → Told) (is_calm : I → Type 0) (faults : I �
 
     whole_at : stop_in stop_at_data ends k ≡ None → IsRead (get_or ends k None)
     whole_at none =
-        let x = one_there told is_calm faults words once s says before enough k below in
+        let x = one_there run k below in
         slot_whole (get_or mid k x) (get_or after k x) (told_mid x) (get_or ends k None) (come.each k x below) none
 
     -- it stopped at its data: there are too many
@@ -179,7 +175,7 @@ module _ {I : Type 0} (told : I → Told) (is_calm : I → Type 0) (faults : I �
 
     long_at : (limit : ℕ) → stop_in stop_at_data ends k ≡ Some (TooLong limit) → IsTooLongFile s limit file
     long_at limit stop =
-        let x = one_there told is_calm faults words once s says before enough k below in
+        let x = one_there run k below in
         slot_long (get_or mid k x) (get_or after k x) (told_mid x) (get_or ends k None) (come.each k x below) limit stop
 
     -- no beam stops at its header once it was accepted
@@ -200,7 +196,7 @@ module _ {I : Type 0} (told : I → Told) (is_calm : I → Type 0) (faults : I �
 
     no_header : (first : Stop) → stop_in stop_at_header ends k ≡ Some first → ⊥
     no_header first stop =
-        let x = one_there told is_calm faults words once s says before enough k below in
+        let x = one_there run k below in
         slot_heads (get_or mid k x) (get_or after k x) (told_mid x) (get_or ends k None) (come.each k x below) first
         stop
 
@@ -265,7 +261,7 @@ module _ {I : Type 0} (told : I → Told) (is_calm : I → Type 0) (faults : I �
   limit_at : (limit : ℕ) → StopsBy stop_at_data ends (TooLong limit) → limit ≡ s.max_bytes
   limit_at limit r =
       let within = stopped_there stop_at_data (TooLong limit) r in
-      let x = one_there told is_calm faults words once s says before enough r.beam within in
+      let x = one_there run r.beam within in
       slot_limit (beam_name s r.beam) (get_or mid r.beam x) (get_or after r.beam x) r.beam limit
       (get_or ends r.beam None) (come.each r.beam x within) r.is
 
@@ -286,7 +282,7 @@ module _ {I : Type 0} (told : I → Told) (is_calm : I → Type 0) (faults : I �
   lowest : StopsBy stop_at_data ends (TooLong s.max_bytes) → IsTooLong s (seen_at told faults before after)
   lowest r = record {
     long = too_long r;
-    quiet = λ k most. still told is_calm faults failed before after all k (not k most);
+    quiet = λ k most. still all k (not k most);
   }
     where
       own : (slot : Option BeamEnd) → slot_stop stop_at_data r.beam slot ≡ Some (TooLong s.max_bytes) →
@@ -337,37 +333,37 @@ module _ {I : Type 0} (told : I → Told) (is_calm : I → Type 0) (faults : I �
   -- ---- by what it came to
 
   module _ (out out' : SinkSeen) where
-    abbrev EndsAt : Option Stop → Type 0
-    EndsAt stop = Ends words (seen_at told faults before after) (calm_at is_calm before) out out' stop
+    abbrev LeftAt : Option Stop → Type 0
+    LeftAt stop = Leaves told is_calm faults words before after out out' stop
 
-    said : (stop : Stop) → SaysOfBeams (told_at told before) s stop →
-        ForSettings words (λ t. SaysOfBeams (told_at told before) t stop)
-    said stop is = for_said words (told_at told before) once s says (λ t. SaysOfBeams (told_at told before) t stop) is
-
-    module _ (same : out' ≡ out) where
-      at_fault : StopsBy stop_at_data ends ReadFault → EndsAt (Some ReadFault)
-      at_fault r =
+    module _ (same : out' ≡ out) (broken : HaveBroken told s n before mid after ends) where
+      fault_ends : StopsBy stop_at_data ends ReadFault → LeftAt (Some ReadFault)
+      fault_ends r =
           let within = stopped_there stop_at_data ReadFault r in
-          let inside : r.beam < length before = omega (arith, within, enough) in
-          let x = one_there told is_calm faults words once s says before enough r.beam within in
-          ends_at words _ _ out out' ReadFault (5, lit< tt, refl) (λ e. omega (arith, e)) (λ e. omega (arith, e)) same
-          (judged_said words s 6 says (λ e. omega (arith, e)))
-          (reads_failing told is_calm faults words failed before after all
-          (fails_beam told is_calm faults words failed before after all r.beam inside
-          (is_one told is_calm faults words once s says before enough r.beam within)
-          (slot_failing r.beam (get_or ends r.beam None) r.is) (λ k less. quiet_where k (r.earlier k less))
-          (λ calm. at_settings told is_calm faults words once s says before enough
-          (λ t. HoldsName (told_at told before r.beam) t r.beam → ⊥) (λ holds.
-          serves (get_or mid r.beam x) (get_or after r.beam x) (get_or ends r.beam None)
-          (come.each r.beam x within) r.is
-          ((read.read.each r.beam x within).read.calm (calm_there is_calm before r.beam x inside calm))
-          (subst (λ (under : List ℕ → Option (List ℕ)). IsSome (under (beam_name s r.beam)))
-          (sym (read.read.each r.beam x within).read.names)
-          (subst (λ (t : Told). IsSome (t.bytes_under (beam_name s r.beam)))
-          (seen_there told nothing_told before r.beam x inside) holds))))
-          (for_said words (told_at told before) once s says
-          (λ t. HaveHeadersAt (told_at told before) t r.beam) (texts r.beam (omega (arith, within))))))
-          tt (said ReadFault tt)
+          let there = inside run r.beam within in
+          let lent = all.lent in
+          let x = one_there run r.beam within in
+          let name = beam_name s r.beam in
+          let was = (read.read.each r.beam x within).read in
+          at_fault run all same r.beam within (slot_failing r.beam (get_or ends r.beam None) r.is)
+          (λ k less. quiet_where k (r.earlier k less))
+          (λ calm holds. serves (get_or mid r.beam x) (get_or after r.beam x) (get_or ends r.beam None)
+          (come.each r.beam x within) r.is (was.calm (calm_there is_calm before r.beam x there calm))
+          (subst (λ (under : List ℕ → Option (List ℕ)). IsSome (under name)) (sym was.names)
+          (subst (λ (t : Told). IsSome (t.bytes_under name)) (seen_there told nothing_told before r.beam x there)
+          holds)))
+          (texts r.beam (omega (arith, within)))
+          (inr (record {
+            begins = begins;
+            whole = whole_to r.beam (omega (arith, within)) (λ k less. r.earlier k less);
+            broke = λ file at.
+                subst (λ t. IsReadOn s.max_bytes name file t (told_at told after r.beam))
+                (sym (seen_there told nothing_told before r.beam x there))
+                (subst (λ t. IsReadOn s.max_bytes name file (told (get_or before r.beam x)) t)
+                (sym (seen_there told nothing_told after r.beam x (omega (arith, there, lent))))
+                (left (told (get_or before r.beam x)) (told (get_or mid r.beam x)) (told (get_or after r.beam x))
+                (get_or ends r.beam None) r.is (broken r.beam x within) file (told_mid r.beam within file at x)));
+          }))
         where
           serves : (x y : I) (slot : Option BeamEnd) →
               HasSlotCome told is_calm faults s o (beam_name s r.beam) x y slot →
@@ -376,95 +372,86 @@ module _ {I : Type 0} (told : I → Told) (is_calm : I → Type 0) (faults : I �
           serves x y None c is calm holds = absurd c
           serves x y (Some end) c is calm holds = c.serves calm holds (stopped_failing r.beam end.feed is)
 
-      at_most : StopsBy stop_at_data ends (TooLong s.max_bytes) → EndsAt (Some (TooLong s.max_bytes))
-      at_most r = ends_at words _ _ out out' (TooLong s.max_bytes) (7, lit< tt, refl) (λ e. omega (arith, e))
-          (λ e. omega (arith, e)) same (judged_said words s 8 says (λ e. omega (arith, e)))
-          (reads_long told is_calm faults words failed before after all
-          (for_said words (told_at told before) once s says
-          (λ t. IsTooLong t (seen_at told faults before after)) (lowest r))) tt
-          (said (TooLong s.max_bytes) (too_long r))
+          left : (start was now : Told) (slot : Option BeamEnd) →
+              slot_stop stop_at_data r.beam slot ≡ Some ReadFault →
+              SlotBreaks s.max_bytes start was (beam_name s r.beam) now slot → (file : List ℕ) →
+              was.bytes_under (beam_name s r.beam) ≡ Some file →
+              IsReadOn s.max_bytes (beam_name s r.beam) file start now
+          left start was now None is broke file at = absurd cc
+          left start was now (Some end) is broke file at = broke (stopped_failing r.beam end.feed is) file at
 
-      at_long : (limit : ℕ) → StopsBy stop_at_data ends (TooLong limit) → EndsAt (Some (TooLong limit))
-      at_long limit r =
+      long_ends : (limit : ℕ) → StopsBy stop_at_data ends (TooLong limit) → LeftAt (Some (TooLong limit))
+      long_ends limit r =
           let is = limit_at limit r in
-          subst (λ m. EndsAt (Some (TooLong m))) (sym is)
-          (at_most (subst (λ m. StopsBy stop_at_data ends (TooLong m)) is r))
+          subst (λ m. LeftAt (Some (TooLong m))) (sym is)
+          (at_long run all same (lowest (subst (λ m. StopsBy stop_at_data ends (TooLong m)) is r)))
 
-      at_header : NoneStopsBy stop_at_data ends → (cause : HeaderCause) (first : Stop)
-          (r : StopsBy stop_at_header ends first) → EndsAt (Some (Header r.beam cause))
-      at_header none cause first r =
-          ends_at words _ _ out out' (Header r.beam cause) (2, lit< tt, refl) (λ e. omega (arith, e))
-          (λ e. omega (arith, e)) same (judged_said words s 3 says (λ e. omega (arith, e)))
-          (reads_quietly told is_calm faults words failed before after all 3 (λ e. omega (arith, e))
-          (λ e. omega (arith, e)) (all_quiet none))
-          tt (said (Header r.beam cause) (header_untold cause first r))
+      header_ends : NoneStopsBy stop_at_data ends → (cause : HeaderCause) (first : Stop)
+          (r : StopsBy stop_at_header ends first) → LeftAt (Some (Header r.beam cause))
+      header_ends none cause first r = at_files run all same (Header r.beam cause) (omega arith) (omega arith)
+          (λ e. omega (arith, e)) (λ e. omega (arith, e)) (λ e. omega (arith, e)) (all_quiet none)
+          (header_untold cause first r)
 
-      at_gap : NoneStopsBy stop_at_data ends → (expected found : ℕ) (first : Stop)
-          (r : StopsBy stop_at_header ends first) → EndsAt (Some (Gap r.beam expected found))
-      at_gap none expected found first r =
-          ends_at words _ _ out out' (Gap r.beam expected found) (6, lit< tt, refl) (λ e. omega (arith, e))
-          (λ e. omega (arith, e)) same (judged_said words s 7 says (λ e. omega (arith, e)))
-          (reads_quietly told is_calm faults words failed before after all 7 (λ e. omega (arith, e))
-          (λ e. omega (arith, e)) (all_quiet none))
-          tt (said (Gap r.beam expected found) (later_untold (Gap r.beam expected found) first r))
+      gap_ends : NoneStopsBy stop_at_data ends → (expected found : ℕ) (first : Stop)
+          (r : StopsBy stop_at_header ends first) → LeftAt (Some (Gap r.beam expected found))
+      gap_ends none expected found first r = at_files run all same (Gap r.beam expected found) (omega arith)
+          (omega arith) (λ e. omega (arith, e)) (λ e. omega (arith, e)) (λ e. omega (arith, e)) (all_quiet none)
+          (later_untold (Gap r.beam expected found) first r)
 
       is_first : (a first : Stop) → Some a ≡ Some first → a ≡ first
       is_first a first e = cc
 
       -- the lowest beam that stopped at its data
-      at_data : (first : Stop) → StopsBy stop_at_data ends first → EndsAt (Some first)
+      at_data : (first : Stop) → StopsBy stop_at_data ends first → LeftAt (Some first)
       at_data first r = by_slot (get_or ends r.beam None) r.is
         where
-          by_end : (e : FeedEnd) → stop_at_data r.beam e ≡ Some first → EndsAt (Some first)
+          by_end : (e : FeedEnd) → stop_at_data r.beam e ≡ Some first → LeftAt (Some first)
           by_end feed.ReadFault is =
               let eq = is_first ReadFault first is in
-              subst (λ x. EndsAt (Some x)) eq (at_fault (subst (λ x. StopsBy stop_at_data ends x) (sym eq) r))
+              subst (λ x. LeftAt (Some x)) eq (fault_ends (subst (λ x. StopsBy stop_at_data ends x) (sym eq) r))
           by_end (feed.TooLong limit) is =
               let eq = is_first (TooLong limit) first is in
-              subst (λ x. EndsAt (Some x)) eq (at_long limit (subst (λ x. StopsBy stop_at_data ends x) (sym eq) r))
+              subst (λ x. LeftAt (Some x)) eq (long_ends limit (subst (λ x. StopsBy stop_at_data ends x) (sym eq) r))
           by_end e is = absurd cc
 
-          by_slot : (slot : Option BeamEnd) → slot_stop stop_at_data r.beam slot ≡ Some first → EndsAt (Some first)
+          by_slot : (slot : Option BeamEnd) → slot_stop stop_at_data r.beam slot ≡ Some first → LeftAt (Some first)
           by_slot None is = absurd cc
           by_slot (Some end) is = by_end end.feed is
 
       -- or at its header
       at_head : NoneStopsBy stop_at_data ends → (first : Stop) → StopsBy stop_at_header ends first →
-          EndsAt (Some first)
+          LeftAt (Some first)
       at_head none first r = by_slot (get_or ends r.beam None) r.is
         where
-          by_end : (e : FeedEnd) → stop_at_header r.beam e ≡ Some first → EndsAt (Some first)
+          by_end : (e : FeedEnd) → stop_at_header r.beam e ≡ Some first → LeftAt (Some first)
           by_end (feed.BadHeader file cause) is =
-              subst (λ x. EndsAt (Some x)) (is_first (Header r.beam cause) first is) (at_header none cause first r)
+              subst (λ x. LeftAt (Some x)) (is_first (Header r.beam cause) first is) (header_ends none cause first r)
           by_end (feed.Gap file expected found) is =
-              subst (λ x. EndsAt (Some x)) (is_first (Gap r.beam expected found) first is)
-              (at_gap none expected found first r)
+              subst (λ x. LeftAt (Some x)) (is_first (Gap r.beam expected found) first is)
+              (gap_ends none expected found first r)
           by_end e is = absurd cc
 
-          by_slot : (slot : Option BeamEnd) → slot_stop stop_at_header r.beam slot ≡ Some first → EndsAt (Some first)
+          by_slot : (slot : Option BeamEnd) → slot_stop stop_at_header r.beam slot ≡ Some first → LeftAt (Some first)
           by_slot None is = absurd cc
           by_slot (Some end) is = by_end end.feed is
 
-      at_first : (first : Stop) → StopsFirst ends first → EndsAt (Some first)
+      at_first : (first : Stop) → StopsFirst ends first → LeftAt (Some first)
       at_first first (inl r) = at_data first r
       at_first first (inr (none, r)) = at_head none first r
 
-      at_many : (many : Stop) → NoneStops ends → CountsTooMany ends s.search.max_candidates many → EndsAt (Some many)
+      at_many : (many : Stop) → NoneStops ends → CountsTooMany ends s.search.max_candidates many → LeftAt (Some many)
       at_many many none r =
           let count = counted_in ends r.beam in
           let limit = s.search.max_candidates in
-          subst (λ x. EndsAt (Some x)) (sym r.is)
-          (ends_at words _ _ out out' (TooMany count limit) (8, lit< tt, refl) (λ e. omega (arith, e))
-          (λ e. omega (arith, e)) same (judged_said words s 9 says (λ e. omega (arith, e)))
-          (reads_quietly told is_calm faults words failed before after all 9 (λ e. omega (arith, e))
-          (λ e. omega (arith, e)) (all_quiet none.0))
-          tt (said (TooMany count limit) (too_many many none.0 r)))
+          subst (λ x. LeftAt (Some x)) (sym r.is)
+          (at_files run all same (TooMany count limit) (omega arith) (omega arith) (λ e. omega (arith, e))
+          (λ e. omega (arith, e)) (λ e. omega (arith, e)) (all_quiet none.0) (too_many many none.0 r))
 
     -- ---- the text, or its front
 
     module _ (files : List (List ℕ)) (are : AreBeamsTold (told_at told before) s.names files) where
       observed : beams_observation files ≡ o
-      observed = (begins.accepted.first (beam_file files 0) (are.each 0 some)).is
+      observed = (begins.accepted.first (beam_file files 0) (are.each 0 run.some)).is
 
       hold_files : NoneStops ends → BeamsHoldData o s.search (map data_of files) ends
       hold_files none = record {
@@ -480,111 +467,82 @@ module _ {I : Type 0} (told : I → Told) (is_calm : I → Type 0) (faults : I �
       }
 
     at_text : (stop : Option Stop) →
-        EndsWritten o s.search (within_in words) (more_in words) ends out out' stop → EndsAt stop
+        EndsWritten o s.search (within_in words) (more_in words) ends out out' stop → LeftAt stop
     at_text stop r = by_kind r.kind
       where
         reach : n ≤ length mid
-        reach = let lent = read.read.lent in omega (arith, lent, enough)
+        reach = let lent = read.read.lent in let enough = run.enough in omega (arith, lent, enough)
 
         text : (P : List ℕ → Type 0) →
             ((data_of_beams : List (List ℕ)) → BeamsHoldData o s.search data_of_beams ends →
             P (searched_beams_text o s.search (within_in words) (more_in words) data_of_beams)) →
             ForBeams words (told_at told before) (HaveText words P)
-        text P wrote = for_settings words (told_at told before) once s says (HaveText words P) (λ files are. (
-          searched (told_at told before) s files are some (all_searched r.whole.0 r.few),
+        text P wrote = for_settings run (HaveText words P) (λ files are. (
+          searched (told_at told before) s files are run.some (all_searched r.whole.0 r.few),
           subst (λ p. P (searched_beams_text p s.search (within_in words) (more_in words) (map data_of files)))
               (sym (observed files are)) (wrote (map data_of files) (hold_files files are r.whole)),
         ))
 
         are_searched : ForSettings words (λ t. AreSearchedAt (told_at told before) t)
-        are_searched = for_said words (told_at told before) once s says
-            (λ t. AreSearchedAt (told_at told before) t) (all_searched r.whole.0 r.few)
+        are_searched = for_said run (λ t. AreSearchedAt (told_at told before) t) (all_searched r.whole.0 r.few)
 
         read_all : (m : ℕ) → m ≢ 6 → m ≢ 8 →
             ReadsBeams words (seen_at told faults before after) (calm_at is_calm before) m
         read_all m six eight =
-            reads_quietly told is_calm faults words failed before after all m six eight (all_quiet r.whole.0)
+            reads_quietly words all m six eight (all_quiet r.whole.0)
 
-        by_kind : (stop ≡ None) ⊎ (stop ≡ Some SinkFault) → EndsAt stop
-        by_kind (inl none) = subst EndsAt (sym none) (record {
+        holding : (list : List (List ℕ)) × BeamsHoldData o s.search list ends
+        holding = all_data told is_calm faults s o n mid after ends come reach r.whole
+
+        late : (x : Option Stop) → x ≢ Some Memory → x ≢ Some ReadFault →
+            Ends words (seen_at told faults before after) (calm_at is_calm before) out out' x → LeftAt x
+        late x memory fault is =
+            record { ends = is; early = λ e. absurd (memory e); order = λ e. absurd (fault e) }
+
+        by_kind : (stop ≡ None) ⊎ (stop ≡ Some SinkFault) → LeftAt stop
+        by_kind (inl none) = subst LeftAt (sym none) (late None (λ e. cc) (λ e. cc) (record {
           known = (0, lit< tt, refl);
           written = record {
             text = λ e. text (λ t. WroteAll t out out') wrote;
             front = λ e. absurd (omega (arith, e));
             failed = λ e. absurd (omega (arith, e));
-            quiet = λ e. (wrote (all_data told is_calm faults s o n mid after ends come reach r.whole).0
-                (all_data told is_calm faults s o n mid after ends come reach r.whole).1).faults;
+            quiet = λ e. (wrote holding.0 holding.1).faults;
             untouched = λ e f. absurd (e refl);
           };
-          judged = judged_said words s 0 says (λ e. omega (arith, e));
+          judged = judged_said run 0 (λ e. omega (arith, e));
           read = read_all 0 (λ e. omega (arith, e)) (λ e. omega (arith, e));
           stopped = searched_at words (told_at told before) 0 (λ e. omega (arith, e)) (λ e. omega (arith, e))
               (λ e. omega (arith, e)) (λ e. omega (arith, e)) (λ e. omega (arith, e)) are_searched;
           said = tt;
-        })
+        }))
           where
             wrote : (data_of_beams : List (List ℕ)) → BeamsHoldData o s.search data_of_beams ends →
                 WroteAll (searched_beams_text o s.search (within_in words) (more_in words) data_of_beams) out out'
             wrote list held = subst (λ x. WritesFound (λ t. WroteAll t out out') (λ t. WroteFront t out out') x
                 (searched_beams_text o s.search (within_in words) (more_in words) list)) none (r.wrote list held)
-        by_kind (inr fault) = subst EndsAt (sym fault) (record {
+        by_kind (inr fault) = subst LeftAt (sym fault) (late (Some SinkFault) (λ e. cc) (λ e. cc) (record {
           known = (9, lit< tt, refl);
           written = record {
             text = λ e. absurd (omega (arith, e));
             front = λ e. text (λ t. WroteFront t out out') front;
-            failed = λ e. (front (all_data told is_calm faults s o n mid after ends come reach r.whole).0
-                (all_data told is_calm faults s o n mid after ends come reach r.whole).1).rose;
+            failed = λ e. (front holding.0 holding.1).rose;
             quiet = λ e. absurd (e refl);
             untouched = λ e f. absurd (f refl);
           };
-          judged = judged_said words s 10 says (λ e. omega (arith, e));
+          judged = judged_said run 10 (λ e. omega (arith, e));
           read = read_all 10 (λ e. omega (arith, e)) (λ e. omega (arith, e));
           stopped = searched_at words (told_at told before) 10 (λ e. omega (arith, e)) (λ e. omega (arith, e))
               (λ e. omega (arith, e)) (λ e. omega (arith, e)) (λ e. omega (arith, e)) are_searched;
           said = (tt, λ t said. tt);
-        })
+        }))
           where
             front : (data_of_beams : List (List ℕ)) → BeamsHoldData o s.search data_of_beams ends →
                 WroteFront (searched_beams_text o s.search (within_in words) (more_in words) data_of_beams) out out'
             front list held = subst (λ x. WritesFound (λ t. WroteAll t out out') (λ t. WroteFront t out out') x
                 (searched_beams_text o s.search (within_in words) (more_in words) list)) fault (r.wrote list held)
 
-    -- a failure of inputs comes first
-    pub fails_in_order : StopsBy stop_at_data ends ReadFault → HaveBroken told s n before mid after ends →
-        FailsFirst words (seen_at told faults before after) (told_at told after)
-    fails_in_order r broken = fails_first told is_calm faults words failed before after all r.beam
-        (let there = r.there in let many = come.many in omega (arith, there, many, enough))
-        (slot_failing r.beam (get_or ends r.beam None) r.is) (λ k less. quiet_where k (r.earlier k less))
-        (for_said words (told_at told before) once s says
-        (λ t. ReadsHeadersTo t r.beam (told_at told before) (told_at told after)
-        ⊎ ReadsDataTo t r.beam (told_at told before) (told_at told after))
-        (inr (record {
-          begins = begins;
-          whole =
-              let within = stopped_there stop_at_data ReadFault r in
-              whole_to r.beam (omega (arith, within)) (λ k less. r.earlier k less);
-          broke = λ file at.
-              let lent = all.lent in
-              let below = stopped_there stop_at_data ReadFault r in
-              let inside : r.beam < length before = omega (arith, below, enough) in
-              let x = one_there told is_calm faults words once s says before enough r.beam below in
-              let name = beam_name s r.beam in
-              subst (λ t. IsReadOn s.max_bytes name file t (told_at told after r.beam))
-              (sym (seen_there told nothing_told before r.beam x inside))
-              (subst (λ t. IsReadOn s.max_bytes name file (told (get_or before r.beam x)) t)
-              (sym (seen_there told nothing_told after r.beam x (omega (arith, inside, lent))))
-              (left (told (get_or before r.beam x)) (told (get_or mid r.beam x)) name (told (get_or after r.beam x))
-              (get_or ends r.beam None) r.is (broken r.beam x below) file (told_mid r.beam below file at x)));
-        })))
-      where
-        left : (start was : Told) (name : List ℕ) (now : Told) (slot : Option BeamEnd) →
-            slot_stop stop_at_data r.beam slot ≡ Some ReadFault → SlotBreaks s.max_bytes start was name now slot →
-            (file : List ℕ) → was.bytes_under name ≡ Some file → IsReadOn s.max_bytes name file start now
-        left start was name now None is broke file at = absurd cc
-        left start was name now (Some end) is broke file at = broke (stopped_failing r.beam end.feed is) file at
-
-    pub through : (stop : Option Stop) →
-        EndsBeams o s.search (within_in words) (more_in words) ends out out' stop → EndsAt stop
-    through stop (inl (first, is, r, same)) = subst EndsAt (sym is) (at_first same first r)
-    through stop (inr (inl (many, is, none, r, same))) = subst EndsAt (sym is) (at_many same many none r)
-    through stop (inr (inr r)) = at_text stop r
+    pub through : HaveBroken told s n before mid after ends → (stop : Option Stop) →
+        EndsBeams o s.search (within_in words) (more_in words) ends out out' stop → LeftAt stop
+    through broken stop (inl (first, is, r, same)) = subst LeftAt (sym is) (at_first same broken first r)
+    through broken stop (inr (inl (many, is, none, r, same))) = subst LeftAt (sym is) (at_many same broken many none r)
+    through broken stop (inr (inr r)) = at_text stop r

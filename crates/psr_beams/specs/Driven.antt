@@ -10,37 +10,15 @@ use Rattle.search_model.specs.Plan.{plan_refusal}
 use Rattle.search_words.specs.Settings.{SettingsSeen}
 use Rattle.stream_model.specs.Walk.{data_of, walk_stop}
 use Rattle.disk_feeder.specs.declared.answers.FeedEnd.TheVariants.{Whole, ReadFault, TooLong}
-use Rattle.disk_feeder.specs.declared.feeder.FeederSpace.{FeederSpace}
 use Rattle.disk_feeder.specs.Ends.{end_of}
-use Rattle.disk_feeder.specs.Feeder.{HasOpenFile}
-use Rattle.disk_feeder.specs.Resting.{at_rest}
 use Rattle.beam_set.specs.declared.ended.BeamEnd.{BeamEnd}
-use Rattle.beam_set.specs.declared.space.BeamSpace.{BeamSpace}
 use Rattle.beam_set.specs.Laws.{HoldsData}
 use Rattle.run_outcome.specs.declared.stop.Stop.{Stop}
-use Rattle.psr_beams.specs.Seen.{told_at}
 use Rattle.psr_beams.specs.Files.{beam_name, stream_of_one, IsReadOn}
 use Rattle.psr_beams.specs.Feeders.{AreRead, StopsReading}
 use Rattle.psr_beams.specs.Judged.{AreOfOne}
-use Rattle.psr_beams.specs.Joined.{CanJoinAll}
 use Rattle.psr_beams.specs.Opened.{StopsOpening}
 use Rattle.psr_beams.specs.Ends.{EndsBeams}
-
--- ---- before the first turn
-
--- where a feeder has a file open, so have the inputs
-abbrev pub HasSlotFile : {I : Type 0} → (I → Type 0) → I → Option FeederSpace → Type 0
-HasSlotFile is_open lent None = ⊥
-HasSlotFile is_open lent (Some space) = HasOpenFile (at_rest space) → is_open lent
-
--- the spaces and the feeders of all beams can be joined, over the inputs at their places
-pub record CanRun {I : Type 0} (told : I → Told) (is_open : I → Type 0) (s : SettingsSeen)
-    (o : Observation) (count : ℕ) (lent : List I) (spaces : List (Option BeamSpace))
-    (feeders : List (Option FeederSpace)) : Type 0 where
-  pub enough : count ≤ length lent
-  pub joins : CanJoinAll (told_at told lent) s o count spaces feeders
-  pub files : (k : ℕ) (x : I) → k < count →
-      HasSlotFile is_open (slice_index_or lent k x) (slice_index_or feeders k None)
 
 -- ---- once all beams have ended. In the following: what inputs tell, whether they are calm, how many calls have
 -- failed.

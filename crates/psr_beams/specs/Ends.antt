@@ -11,15 +11,15 @@ use Rattle.beam_set.specs.declared.ended.BeamEnd.{BeamEnd}
 use Rattle.beam_set.specs.Laws.{BeamsHoldData}
 use Rattle.beam_set.specs.Searched.{searched_beams_text}
 use Rattle.run_outcome.specs.declared.stop.Stop.{Stop}
-use Rattle.run_outcome.specs.declared.stop.Stop.TheVariants.{Header, ReadFault, Gap, TooLong, TooMany, SinkFault}
+use Rattle.run_outcome.specs.declared.stop.Stop.TheVariants.{Header, Memory, ReadFault, Gap, TooLong, TooMany, SinkFault}
 use Rattle.run_outcome.specs.Ends.{end_status}
 use Rattle.run_outcome.specs.Runs.{IsStopOfWords}
 use Rattle.run_outcome.specs.Outcomes.{JudgesWords}
 use Rattle.psr_beams.specs.Words.{searching_beams}
-use Rattle.psr_beams.specs.Seen.{told_in}
+use Rattle.psr_beams.specs.Seen.{told_in, told_at, calm_at, seen_at}
 use Rattle.psr_beams.specs.Files.{ForSettings}
 use Rattle.psr_beams.specs.Stops.{SaysOfBeams}
-use Rattle.psr_beams.specs.Outcome.{ReadsBeams, StopsAtBeams, WritesBeams}
+use Rattle.psr_beams.specs.Outcome.{ReadsNoData, FailsFirst, ReadsBeams, StopsAtBeams, WritesBeams}
 
 -- ---- the ends of all beams
 
@@ -128,3 +128,13 @@ pub record Ends (words : List (List ℕ)) (inputs : ℕ → InputsSeen) (is_calm
   pub read : ReadsBeams words inputs is_calm (end_status stop)
   pub stopped : StopsAtBeams words (told_in inputs) (end_status stop)
   pub said : IsSaid words (told_in inputs) stop
+
+-- So it is over these inputs. Where there was no memory no data were read, and where inputs failed nothing came before.
+pub record Leaves {I : Type 0} (told : I → Told) (is_calm : I → Type 0) (faults : I → ℕ)
+    (words : List (List ℕ)) (before after : List I) (out_before out_after : SinkSeen)
+    (stop : Option Stop) : Type 0 where
+  pub ends : Ends words (seen_at told faults before after) (calm_at is_calm before) out_before
+      out_after stop
+  pub early : stop ≡ Some Memory → ReadsNoData words (told_at told before) (told_at told after)
+  pub order : stop ≡ Some ReadFault → FailsFirst words (seen_at told faults before after)
+      (told_at told after)

@@ -25,22 +25,19 @@ use Rattle.psr_beams.specs.Files.{beam_name, header_read}
 abbrev pub LeavesData : Told → List ℕ → Told → Type 0
 LeavesData before name after = OfFile before name (λ file. after ≡ header_read name file before)
 
--- what a feeder has read since its inputs told something
-abbrev pub SlotRead : Told → Told → Option FeederSpace → Type 0
-SlotRead before now None = ⊥
-SlotRead before now (Some space) = FeederRead before now (at_rest space)
-
 -- a feeder reads the one file of a beam, of which it has read the header
 pub record HasBegun {I : Type 0} (told : I → Told) (is_open : I → Type 0) (s : SettingsSeen)
-    (name : List ℕ) (lent : I) (space : FeederSpace) : Type 0 where
+    (name : List ℕ) (before lent : I) (space : FeederSpace) : Type 0 where
   pub plan : HasPlan (at_rest space) (name ∷ []) s.starts s.size s.max_bytes
   pub begun : IsBegun (told lent) (at_rest space)
   pub file : HasOpenFile (at_rest space) → is_open lent
+  pub reads : FeederRead (told before) (told lent) (at_rest space)
 
-abbrev pub SlotBegun : {I : Type 0} → (I → Told) → (I → Type 0) → SettingsSeen → List ℕ → I →
+abbrev pub SlotBegun : {I : Type 0} → (I → Told) → (I → Type 0) → SettingsSeen → List ℕ → I → I →
     Option FeederSpace → Type 0
-SlotBegun told is_open s name lent None = ⊥
-SlotBegun told is_open s name lent (Some space) = HasBegun told is_open s name lent space
+SlotBegun told is_open s name before lent None = ⊥
+SlotBegun told is_open s name before lent (Some space) =
+    HasBegun told is_open s name before lent space
 
 -- no call failed, and all data are left
 pub record ReadsHeader {I : Type 0} (told : I → Told) (is_calm : I → Type 0) (faults : I → ℕ)
@@ -80,17 +77,10 @@ pub record AreRead {I : Type 0} (told : I → Told) (is_calm : I → Type 0) (fa
 
 -- these are their feeders
 pub record AreBegun {I : Type 0} (told : I → Told) (is_open : I → Type 0) (s : SettingsSeen)
-    (count : ℕ) (lent : List I) (slots : List (Option FeederSpace)) : Type 0 where
+    (count : ℕ) (before lent : List I) (slots : List (Option FeederSpace)) : Type 0 where
   pub many : length slots ≡ count
   pub each : (k : ℕ) (x : I) → k < count → SlotBegun told is_open s (beam_name s k)
-      (slice_index_or lent k x) (slice_index_or slots k None)
-
--- and this is what each has read
-abbrev pub HaveRead : {I : Type 0} → (I → Told) → ℕ → List I → List I →
-    List (Option FeederSpace) → Type 0
-HaveRead {I} told count before now slots = (k : ℕ) (x : I) → k < count →
-    SlotRead (told (slice_index_or before k x)) (told (slice_index_or now k x))
-    (slice_index_or slots k None)
+      (slice_index_or before k x) (slice_index_or lent k x) (slice_index_or slots k None)
 
 -- the header of a beam could not be read, and those before it were
 pub record StopsReading {I : Type 0} (told : I → Told) (is_calm : I → Type 0) (faults : I → ℕ)

@@ -1,19 +1,14 @@
 // A search of several beams from its settings to its end.
-ghost use Rattle.std.specs.Prelude.{◌≡◌, ◌≤◌, ℕ, List, length};
-ghost use Rattle.search_words.specs.Settings.{SettingsSeen, AllInRange, settings_seen};
+ghost use Rattle.std.specs.Prelude.{◌≡◌, ◌≤◌, length};
+ghost use Rattle.search_words.specs.Settings.{AllInRange, settings_seen};
 ghost use Rattle.run_outcome.specs.Lone.{IsOfOne};
-ghost use Rattle.psr_beams.specs.Feeders.{HaveRead};
-ghost use Rattle.psr_beams.specs.Driven.{CanRun, HaveCome, HaveBroken, IsDriven};
+ghost use Rattle.psr_beams.specs.Driven.{IsDriven};
 
 use crate::ends::write_end;
 use crate::feeders::begin_all;
-use crate::joined::join_all;
-use crate::opened::{OpenedBeams, open_all};
+use crate::opened::{judge_all, open_all};
 use crate::words::BeamWords;
-use arrayvec::ArrayVec;
-use beam_set::{BeamEnd, BeamSpace, MOST_BEAMS, run_set};
-use disk_feeder::FeederSpace;
-use obs_plan::Observation;
+use beam_set::run_set;
 use psr_base::{Inputs, Sink};
 use run_outcome::Stop;
 use search_session::Gate;
@@ -22,32 +17,6 @@ use std::sync::Wait;
 use std::thread::Threads;
 // A law: it does nothing when it runs, and the proofs use what it ensures.
 use beam_set::later_headers_agree;
-
-// Drives all beams to their ends.
-fn run_joined<I: Inputs + Send, G: Gate + Sync, R: Threads + Wait + Sync>(
-    rt: &R,
-    turns: u32,
-    spaces: ArrayVec<Option<BeamSpace>, MOST_BEAMS>,
-    feeders: ArrayVec<Option<FeederSpace<'_>>, MOST_BEAMS>,
-    observation: &Observation,
-    inputs: &mut [I],
-    gate: &G,
-) -> ArrayVec<Option<BeamEnd>, MOST_BEAMS>
-    requires turns { 1 ≤ turns }
-    requires can { (s : SettingsSeen) × (count : ℕ) × CanRun I.told I.is_open s observation.now
-        count inputs.old spaces.items feeders.items }
-    ensures come { (s : SettingsSeen) (count : ℕ) → CanRun I.told I.is_open s observation.now count
-        inputs.old spaces.items feeders.entry.items
-        → HaveCome I.told I.is_calm I.faults s observation.now count inputs.old inputs.new
-        result.items }
-    ensures broken { (s : SettingsSeen) (count : ℕ) (starts : List I)
-        → CanRun I.told I.is_open s observation.now count inputs.old spaces.items
-        feeders.entry.items → HaveRead I.told count starts inputs.old feeders.entry.items
-        → HaveBroken I.told s count starts inputs.old inputs.new result.items }
-{
-    let beams = join_all(spaces, feeders, observation);
-    run_set(rt, beams, inputs, turns, gate)
-}
 
 /// Drives a search of several beams from its settings to its end, and answers what it came to: its stop, or none where
 /// all of its text is written. It may not end.
@@ -72,23 +41,15 @@ pub(crate) fn drive<I: Inputs + Send, K: Sink, G: Gate + Sync, R: Threads + Wait
         Ok(feeders) => feeders,
         Err(stop) => return Some(stop),
     };
-    let opened = match open_all(rt, alloc, &said.settings, feeders.as_slice()) {
-        Ok(opened) => opened,
+    let observation = match judge_all(alloc, &said.settings, feeders.as_slice()) {
+        Ok(observation) => observation,
         Err(stop) => return Some(stop),
     };
-    let OpenedBeams {
-        observation,
-        spaces,
-    } = opened;
-    let ends = run_joined(
-        rt,
-        said.settings.run.turns,
-        spaces,
-        feeders,
-        &observation,
-        inputs,
-        gate,
-    );
+    let beams = match open_all(rt, alloc, &said.settings, &observation, feeders) {
+        Ok(beams) => beams,
+        Err(_memory) => return Some(Stop::Memory),
+    };
+    let ends = run_set(rt, beams, inputs, said.settings.run.turns, gate);
     write_end(
         &said.settings.search,
         &observation,

@@ -1,9 +1,9 @@
 // The feeders of all beams, each of which reads the header of its file.
-ghost use Rattle.std.specs.Prelude.{◌≡◌, ◌<◌, ◌≤◌, length, Some, IfOk, IfErr, OnOk};
+ghost use Rattle.std.specs.Prelude.{◌≡◌, ◌<◌, ◌≤◌, length, IfOk, IfErr, OnOk};
 ghost use Rattle.search_words.specs.Settings.{AllInRange, settings_seen};
 ghost use Rattle.run_outcome.specs.Lone.{IsOfOne};
 ghost use Rattle.psr_beams.specs.Files.{beam_name};
-ghost use Rattle.psr_beams.specs.Feeders.{HasBegun, SlotRead, ReadsHeader, FailsHeader, AreRead, AreBegun, HaveRead, StopsReading, stop_of_header_at};
+ghost use Rattle.psr_beams.specs.Feeders.{HasBegun, ReadsHeader, FailsHeader, AreRead, AreBegun, StopsReading, stop_of_header_at};
 
 use arrayvec::ArrayVec;
 use beam_set::MOST_BEAMS;
@@ -35,11 +35,9 @@ fn begin_beam<'a, I: Inputs>(
     requires there { beam < length settings.now.run.names.items }
     requires few { length settings.now.run.names.items ≤ 7 }
     ensures begun { IfOk result (HasBegun I.told I.is_open (settings_seen settings.now)
-        (beam_name (settings_seen settings.now) beam) inputs.new) }
+        (beam_name (settings_seen settings.now) beam) inputs.old inputs.new) }
     ensures read { OnOk result (ReadsHeader I.told I.is_calm I.faults
         (beam_name (settings_seen settings.now) beam) inputs.old inputs.new) }
-    ensures reads { IfOk result (λ space. SlotRead (I.told inputs.old) (I.told inputs.new)
-        (Some space)) }
     ensures stopped { IfErr result (FailsHeader I.told I.is_calm I.faults
         (beam_name (settings_seen settings.now) beam) beam inputs.old inputs.new) }
 {
@@ -74,9 +72,7 @@ pub(crate) fn begin_all<'a, I: Inputs>(
     ensures read { OnOk result (AreRead I.told I.is_calm I.faults (settings_seen settings.now)
         (length settings.now.run.names.items) inputs.old inputs.new) }
     ensures begun { IfOk result (λ slots. AreBegun I.told I.is_open (settings_seen settings.now)
-        (length settings.now.run.names.items) inputs.new slots.items) }
-    ensures reads { IfOk result (λ slots. HaveRead I.told (length settings.now.run.names.items)
-        inputs.old inputs.new slots.items) }
+        (length settings.now.run.names.items) inputs.old inputs.new slots.items) }
     ensures stopped { IfErr result (StopsReading I.told I.is_calm I.faults
         (settings_seen settings.now) inputs.old inputs.new) }
 {

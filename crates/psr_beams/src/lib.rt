@@ -6,7 +6,6 @@ mod drive;
 mod ends;
 mod engines;
 mod feeders;
-mod joined;
 mod judge;
 mod laws;
 mod opened;

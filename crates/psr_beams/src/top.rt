@@ -1,11 +1,11 @@
 // The top call.
-ghost use Rattle.std.specs.Prelude.{◌≡◌, ◌≤◌, ℕ, length, slice_index_or, Some, map, string_bytes};
+ghost use Rattle.std.specs.Prelude.{◌≡◌, ◌≤◌, ℕ, length, slice_index_or, map, string_bytes};
 ghost use Rattle.search_words.specs.Settings.{SettingsSeen};
 ghost use Rattle.run_outcome.specs.Ends.{end_status};
 ghost use Rattle.psr_beams.specs.Words.{SayBeams};
 ghost use Rattle.psr_beams.specs.Seen.{told_at, calm_at, seen_at};
 ghost use Rattle.psr_beams.specs.Outcome.{Outcome, FailsFirst, ReadsNoData};
-ghost use Rattle.psr_beams.specs.Ends.{Ends};
+ghost use Rattle.psr_beams.specs.Ends.{Leaves};
 
 use crate::drive::drive;
 use crate::words::read_words;
@@ -62,13 +62,8 @@ fn search<I: Inputs + Send, K: Sink, G: Gate + Sync, R: Threads + Wait + Sync>(
     gate: &G,
 ) -> Option<Stop>
     requires { length inputs.old ≡ 7 }
-    ensures ends { Ends (map string_bytes words.now)
-        (seen_at I.told I.faults inputs.old inputs.new) (calm_at I.is_calm inputs.old)
-        (K.seen out.old) (K.seen out.new) result }
-    ensures early { result ≡ Some Stop.Memory → ReadsNoData (map string_bytes words.now)
-        (told_at I.told inputs.old) (told_at I.told inputs.new) }
-    ensures order { result ≡ Some Stop.ReadFault → FailsFirst (map string_bytes words.now)
-        (seen_at I.told I.faults inputs.old inputs.new) (told_at I.told inputs.new) }
+    ensures leaves { Leaves I.told I.is_calm I.faults (map string_bytes words.now) inputs.old
+        inputs.new (K.seen out.old) (K.seen out.new) result }
     ensures refused { end_status result ≡ 2 → inputs.new ≡ inputs.old }
     ensures others { (s : SettingsSeen) (k : ℕ) (x : I) → SayBeams (map string_bytes words.now) s
         → length s.names ≤ k → slice_index_or inputs.new k x ≡ slice_index_or inputs.old k x }

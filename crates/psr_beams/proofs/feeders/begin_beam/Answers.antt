@@ -32,7 +32,7 @@ returns-in-Ok-begin-clause-begun g c =
     let here = (goal.at.returns-in-Ok-begin-clause-begun g c).After-rests in
     begun s name c.in-Ok.space (starts g here) (plan g here) g.I.Inputs.told g.I.Inputs.is_open g.I.Inputs.is_calm g.I.Inputs.faults
     c.args.inputs.now c.begin.new.inputs c.begin.new.self c.begin.ensures.plan c.in-Ok-begin.ensures.begun
-    c.in-Ok-begin.ensures.open
+    c.in-Ok-begin.ensures.open c.in-Ok-begin.ensures.reads.begins
 
 pub returns-in-Ok-begin-clause-read : goal.returns-in-Ok-begin-clause-read
 returns-in-Ok-begin-clause-read g c =
@@ -42,9 +42,6 @@ returns-in-Ok-begin-clause-read g c =
     reads s name c.in-Ok.space (starts g here) (plan g here) g.I.Inputs.told g.I.Inputs.is_open g.I.Inputs.is_calm g.I.Inputs.faults
     c.args.inputs.now c.begin.new.inputs c.begin.new.self _ (λ e. cc) c.begin.ensures.plan
     c.in-Ok-begin.ensures.begun c.in-Ok-begin.ensures.reads.read c.in-Ok-begin.ensures.inputs
-
-pub returns-in-Ok-begin-clause-reads : goal.returns-in-Ok-begin-clause-reads
-returns-in-Ok-begin-clause-reads g c = c.in-Ok-begin.ensures.reads.begins
 
 pub returns-clause-stopped : goal.returns-clause-stopped
 returns-clause-stopped g c =
