@@ -1,5 +1,5 @@
 -- What is kept of an observation that is accepted.
-use Rattle.std.proofs.Common.{◌≡◌, ℕ, List, [], ◌∷◌, None, Ok, length, map, refl, sym, ap, ◌∙◌, subst}
+use Rattle.std.proofs.Common.{◌≡◌, ℕ, List, [], ◌∷◌, None, Ok, length, map, refl, sym, ap, ◌∙◌}
 use Rattle.std.specs.Prelude.{string_bytes}
 use Rattle.psr_base.specs.Told.{Told}
 use Rattle.dada_model.specs.Fields.{Field, HeaderText, fields_of}
@@ -8,7 +8,7 @@ use Rattle.obs_plan.specs.Later.{profile_of}
 use Rattle.disk_feeder.specs.declared.place.Place.{Place}
 use Rattle.disk_feeder.specs.declared.source.Source.{Source}
 use Rattle.disk_feeder.specs.declared.stream.Stream.{Stream}
-use Rattle.disk_feeder.specs.History.{Running, ReadsUpTo}
+use Rattle.disk_feeder.specs.History.{Running}
 use Rattle.disk_feeder.specs.Sources.{plan_of}
 use Rattle.disk_feeder.specs.Streams.{StreamRead}
 use Rattle.disk_feeder.specs.Beginning.{IsAcceptedIn, AcceptsIn}
@@ -47,12 +47,11 @@ pub still_read : (old new : Stream) (transfer : ℕ) (o : Observation) (before t
     AcceptsIn old.source transfer o new.source → new.due ≡ old.due → new.end ≡ old.end → old.due ≡ None →
     old.end ≡ None → StreamRead before told old → StreamRead before told new
 still_read old new transfer o before told a due end none running was =
-    let P : Place → Type 0 = λ pl. ReadsUpTo (plan_of old.source) before told pl in
     to_fate new Running (plan_of new.source) new.source.place before told
     (goes_on new.due new.end (due ∙ none) (end ∙ running)) refl refl
     (same_files (plan_of old.source) (plan_of new.source) before told new.source.place
     (ap (λ n. map string_bytes n.now) a.names) (ap (λ s. s.now) a.starts) a.limit
-    (subst P (sym a.place) (of_fate old Running before told (goes_on old.due old.end none running) was)))
+    (rw a.place (of_fate old Running before told (goes_on old.due old.end none running) was)))
 
 -- what stays where a header is accepted
 pub keeps_begun : {I : Type 0} (f g : Feeder I) (transfer : ℕ) (o : Observation) (told : Told) → IsBegun told f →

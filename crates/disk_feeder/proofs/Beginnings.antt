@@ -1,25 +1,24 @@
 -- A feeder whose first headers were accepted stands for the first header alone.
-use Rattle.std.proofs.Common.{◌≡◌, ℕ, ◌+◌, ◌*◌, ◌<◌, Bool, true, List, [], ◌++◌, Option, Some, None, Ok, length, take, get_or, refl, sym, ap, ◌∙◌, subst, arith}
+use Rattle.std.proofs.Common.{◌≡◌, ℕ, ◌+◌, ◌<◌, Bool, true, List, [], ◌++◌, Some, None, Ok, length, take, get_or, refl, sym, ap, ◌∙◌, arith}
 use Rattle.std.specs.Prelude.{slice_get, slice_index_or}
-use Rattle.std.proofs.lemmas.List.{drop_all}
 use Rattle.std.proofs.lemmas.Option.{slice_get-get_or, slice_get_within}
 use Rattle.psr_base.specs.Told.{Told, OfFile, left_to_read}
 use Rattle.dada_model.specs.Fields.{HeaderText, header_of, fields_of}
 use Rattle.dada_model.specs.Observation.{observation_in}
-use Rattle.stream_model.specs.Blocks.{full_entries, whole_stream, joined_data}
+use Rattle.stream_model.specs.Blocks.{whole_stream, joined_data}
 use Rattle.stream_model.specs.Walk.{FileStream, file_at, begin_of, data_of, data_between, header_stop}
 use Rattle.stream_model.specs.WalkLaws.{AreStarts, IsAccepted, AreWalked, FirstFilesContinue, DataGrow, DataNone}
-use Rattle.disk_feeder.specs.declared.due.Due.{Due}
 use Rattle.disk_feeder.specs.declared.place.Place.{Place}
 use Rattle.disk_feeder.specs.declared.source.Source.{Source}
 use Rattle.disk_feeder.specs.declared.stream.Stream.{Stream}
-use Rattle.disk_feeder.specs.Plan.{Plan, stream_of, begin_at, AreToldTo, AreAccepted, HeadersAreTold, opened_at}
+use Rattle.disk_feeder.specs.Plan.{Plan, stream_of, begin_at, AreToldTo, AreAccepted, HeadersAreTold}
 use Rattle.disk_feeder.specs.Reading.{IsAt, HasRead}
 use Rattle.disk_feeder.specs.Sources.{plan_of, first_name}
 use Rattle.disk_feeder.specs.Filling.{IsFilled}
 use Rattle.disk_feeder.specs.Beginning.{start_place, HeadersRead, IsBegunStream}
-use Rattle.disk_feeder.specs.Feeding.{header_entries, headers_sealed, IsFeeding}
-use Rattle.disk_feeder.proofs.Needed.{told_within, told_to_open}
+use Rattle.disk_feeder.specs.Feeding.{header_entries, IsFeeding}
+use Rattle.disk_feeder.proofs.Needed.{told_to_open}
+use Rattle.disk_feeder.proofs.Sealings.{next_begun}
 use Rattle.disk_feeder.proofs.Behind.{begin_start}
 use Rattle.disk_feeder.proofs.Streams.{starts_of, first_header}
 use Rattle.disk_feeder.proofs.OfSource.{name_count, plan_starts}
@@ -33,8 +32,7 @@ walked : (plan : Plan) (files : List (List ℕ)) → length files ≡ length pla
     AreWalked (stream_of plan files)
 walked plan files count starts accepted headed one headers = record {
   starts = starts_of plan files count starts;
-  accepted = λ transfer there. let P : ℕ → Type 0 = λ t. IsAccepted (file_at s (begin_of s t)) in
-      subst P (the_only transfer there) first;
+  accepted = λ transfer there. rw (← the_only transfer there) first;
 }
   where
     s : FileStream
@@ -80,11 +78,6 @@ at_start grow none plan told is_open files starts goes_on left =
       );
     }
 
--- where the first file is open, it is told
-first_told : (is_open : Bool) (told : Told) (plan : Plan) (files : List (List ℕ)) →
-    AreToldTo (opened_at (start_place is_open)) told plan files → is_open ≡ true → AreToldTo 1 told plan files
-first_told is_open told plan files are open_now = told_to_open (start_place is_open) told plan files open_now are
-
 read_start : FirstFilesContinue → DataGrow → DataNone → (plan : Plan) (told : Told) (is_open : Bool) →
     AreStarts plan.starts (length plan.names) → AreAccepted plan → length plan.headers ≡ length plan.starts →
     HeadersAreTold plan told → (is_open ≡ true → length plan.starts ≡ 1) →
@@ -104,9 +97,10 @@ read_start continue grow none plan told is_open starts accepted headed headers o
       let below = starts.within 0 starts.some in
       let first = starts.first in
       continue (stream_of plan files) 0 (walked plan files are.count starts accepted headed (one open_now)
-      (first_header 1 plan told files 0 headers (first_told is_open told plan files are open_now) below (omega arith)))
+      (first_header 1 plan told files 0 headers (told_to_open (start_place is_open) told plan files open_now are) below
+      (omega arith)))
       starts.some)
-      (λ open_now. left open_now files (first_told is_open told plan files are open_now));
+      (λ open_now. left open_now files (told_to_open (start_place is_open) told plan files open_now are));
   begin = begin_start none plan told is_open starts.first;
 }
 
@@ -134,20 +128,12 @@ left_known source told is_open left open_now files are =
     let first = starts.first in
     left open_now (slice_index_or files 0 [])
     (ap (λ (k : ℕ). told.bytes_under (slice_index_or plan.names k [])) source.begin.first
-    ∙ told_within 1 told plan files 0 are (omega arith) (omega arith))
+    ∙ are.each 0 (omega arith) (omega arith))
 
 filled_start : (plan : Plan) (told : Told) (at : Place) (block : List ℕ) → HasRead plan told at [] [] →
     0 < length block → IsFilled plan told at block 0 None []
-unfolding whole_stream full_entries
-filled_start plan told at block has some = record {
-  before = [];
-  current = [];
-  fulls = 0;
-  sealed = refl;
-  count = omega arith;
-  kept = sym (drop_all (0 * length block) [] (omega arith));
-  next = (has, some);
-}
+unfolding whole_stream
+filled_start plan told at block has some = next_begun plan told at block [] [] some has refl
 
 pub begins_feeding : FirstFilesContinue → DataGrow → DataNone → (s : Stream) (told : Told) → IsBegunStream told s →
     AreAccepted (plan_of s.source) → IsFeeding s told (header_entries (take 1 (plan_of s.source).headers)) []
@@ -157,16 +143,12 @@ begins_feeding continue grow none s told b accepted =
     let some = s.source.begin.some in
     let at = s.source.place in
     let zero_transfer : at.transfer ≡ 0 = ap (λ (p : Place). p.transfer) b.place in
-    let P : Place → Type 0 = λ p. HasRead plan told p [] [] in
-    let has : HasRead plan told at [] [] = subst P (sym b.place)
+    let has : HasRead plan told at [] [] = rw b.place
     (read_start continue grow none plan told at.is_open (plan_starts s.source) accepted s.source.headed
     (headers_known s.source told b.headers) b.one (left_known s.source told at.is_open b.left)) in
-    let Q : ℕ → Type 0 = λ n. IsFilled plan told at s.block.items n s.due [] in
-    let R : Option Due → Type 0 = λ d. IsFilled plan told at s.block.items 0 d [] in
     feeds_running s told (header_entries (take 1 headers)) [] b.end (record {
       there = omega arith;
       accepted = accepted;
-      sealed = ap (λ (n : ℕ). header_entries (take (n + 1) headers)) (sym zero_transfer)
-          ∙ ap (λ (d : Bool). header_entries (take (headers_sealed d at.transfer) headers)) (sym b.header_due);
-      stream = subst Q (sym b.held) (subst R (sym b.due) (filled_start plan told at s.block.items has s.some));
+      sealed = rw (b.header_due, zero_transfer) refl;
+      stream = rw (b.held, b.due) (filled_start plan told at s.block.items has s.some);
     })

@@ -1,5 +1,5 @@
 -- What was read of the files before a place, whether or not its own file is told.
-use Rattle.std.proofs.Common.{◌≡◌, ℕ, ◌+◌, ◌<◌, ◌≤◌, Bool, true, false, List, [], ◌∷◌, ◌++◌, length, take, refl, sym, ap, ◌∙◌, subst, inl, inr, append_assoc, arith}
+use Rattle.std.proofs.Common.{◌≡◌, ℕ, ◌+◌, ◌<◌, ◌≤◌, Bool, true, false, List, [], ◌∷◌, ◌++◌, length, take, refl, sym, ap, ◌∙◌, inl, inr, append_assoc, arith}
 use mathlib.Core.List.{IsPrefix}
 use Rattle.std.specs.Prelude.{option_to_list}
 use Rattle.std.proofs.lemmas.Bool.{true≢false, cases_eq}
@@ -11,7 +11,7 @@ use Rattle.disk_feeder.specs.declared.place.Place.{Place}
 use Rattle.disk_feeder.specs.Front.{OpensAtMostOne}
 use Rattle.disk_feeder.specs.Plan.{Plan, stream_of, begin_at, IsAmong, AreToldTo, AreToldWithFirsts}
 use Rattle.disk_feeder.specs.History.{read_before, read_first, ReadsThrough}
-use Rattle.disk_feeder.specs.Reading.{IsAt, BeginsWith, PassesWith, DataBegin}
+use Rattle.disk_feeder.specs.Reading.{IsAt, BeginsWith, DataBegin}
 use Rattle.disk_feeder.specs.Beginning.{start_place}
 use Rattle.disk_feeder.proofs.Needed.{told_before, told_fewer}
 use Rattle.disk_feeder.proofs.Streams.{begin_is}
@@ -127,12 +127,9 @@ module _ (plan : Plan) (told : Told) (at : Place) (before : List (List ℕ)) (cu
         let begin : ℕ → ℕ = begin_at plan.starts (length plan.names) in
         elim (cases_eq t at.transfer) [
           | inl same ↦
-              let P : ℕ → Type 0 = λ n. PassesWith s n k (before ++ current ∷ []) in
-              let From : ℕ → Type 0 = λ n. begin n ≤ k in
-              let Upto : ℕ → Type 0 = λ n. k ≤ begin (n + 1) in
-              let most : k ≤ begin (at.transfer + 1) = subst Upto same upto in
-              let b = was.here k (subst From same from) (omega arith) files are in
-              subst P (sym same) (record {
+              let most : k ≤ begin (at.transfer + 1) = rw (← same) upto in
+              let b = was.here k (rw (← same) from) (omega arith) files are in
+              rw same (record {
                 more = b.more;
                 later = [];
                 is = ap (λ (xs : List (List ℕ)). xs ++ current ∷ []) b.earlier
@@ -155,9 +152,6 @@ module _ (plan : Plan) (told : Told) (at : Place) (before : List (List ℕ)) (cu
 pub prefix_is : (xs ys : List Reading) → xs ≡ ys → IsPrefix xs ys
 prefix_is xs ys same = ([], append-nil xs ∙ same)
 
-prefix_to : (xs ys zs : List Reading) → ys ≡ zs → IsPrefix xs ys → IsPrefix xs zs
-prefix_to xs ys zs same p = (p.0, p.1 ∙ same)
-
 -- so it is of the history, where it is of what was read before the open file
 prefix_all : (xs : List Reading) (told : Told) → IsPrefix xs told.earlier → IsPrefix xs (history told)
 prefix_all xs told p =
@@ -167,9 +161,8 @@ prefix_all xs told p =
 -- and where it was of the history before one name was opened
 pub prefix_past : (xs : List Reading) (told told' : Told) → OpensAtMostOne told told' → IsPrefix xs (history told) →
     IsPrefix xs (history told')
-prefix_past xs told told' (inl same) p = prefix_to xs (history told) (history told') (ap history (sym same)) p
-prefix_past xs told told' (inr later) p =
-    prefix_all xs told' (prefix_to xs (history told) told'.earlier (sym later) p)
+prefix_past xs told told' (inl same) p = rw same p
+prefix_past xs told told' (inr later) p = prefix_all xs told' (rw later p)
 
 module _ (plan : Plan) (before told told' : Told) (at : Place) (names : told'.bytes_under ≡ told.bytes_under)
     (was : ReadsThrough plan before told at.file (read_first at.is_open told)) where
@@ -182,29 +175,20 @@ module _ (plan : Plan) (before told told' : Told) (at : Place) (names : told'.by
       (was k upto files
       (told_before (IsAmong k plan.starts (length plan.names)) told told' plan.names files names are))
 
-  first_is : (b : Bool) → at.is_open ≡ b → read_first at.is_open told ≡ read_first b told
-  first_is b same = ap (λ (x : Bool). read_first x told) same
-
   -- the file at the place was opened
   pub through_opened : at.is_open ≡ false → told'.earlier ≡ history told →
       ReadsThrough plan before told' at.file told'.earlier
-  through_opened shut later =
-      through_map told'.earlier (λ xs p.
-      prefix_to xs (read_first at.is_open told) told'.earlier (first_is false shut ∙ sym later) p)
+  through_opened shut later = through_map told'.earlier (λ xs p. rw later (rw shut at p))
 
   -- it was read on
   pub through_read : at.is_open ≡ true → told'.earlier ≡ told.earlier →
       ReadsThrough plan before told' at.file (read_first at.is_open told')
   through_read opened same =
-      through_map (read_first at.is_open told') (λ xs p.
-      prefix_to xs (read_first at.is_open told) (read_first at.is_open told')
-      (first_is true opened ∙ sym same ∙ sym (ap (λ (x : Bool). read_first x told') opened)) p)
+      through_map (read_first at.is_open told') (λ xs p. rw (opened, same) (rw opened at p))
 
   open_prefix : at.is_open ≡ true → told'.earlier ≡ told.earlier → (xs : List Reading) →
       IsPrefix xs (read_first at.is_open told) → IsPrefix xs (history told')
-  open_prefix opened same xs p =
-      prefix_all xs told'
-      (prefix_to xs (read_first at.is_open told) told'.earlier (first_is true opened ∙ sym same) p)
+  open_prefix opened same xs p = prefix_all xs told' (rw same (rw opened at p))
 
   -- it was read to its end
   pub through_closed : at.is_open ≡ true → told'.earlier ≡ told.earlier →
@@ -213,12 +197,9 @@ module _ (plan : Plan) (before told told' : Told) (at : Place) (names : told'.by
       ReadsThrough plan before told' (at.file + 1) (history told')
   through_closed opened same all = λ k upto files are. elim (cases_eq k (at.file + 1)) [
     | inl last ↦
-        let Are : ℕ → Type 0 = λ n. AreToldWithFirsts n told' plan files in
-        let P : ℕ → Type 0 = λ n.
-        IsPrefix (history (read_before plan.names (stream_of plan files) n before)) (history told') in
-        subst P (sym last)
+        rw last
         (prefix_is (history (read_before plan.names (stream_of plan files) (at.file + 1) before)) (history told')
-        (ap history (sym (all files (subst Are last are)))))
+        (ap history (sym (all files (rw last at are)))))
     | inr other ↦ through_map (history told') (open_prefix opened same) k (omega arith) files are
   ]
 
@@ -230,9 +211,7 @@ module _ (plan : Plan) (before told told' : Told) (at : Place) (names : told'.by
   -- a fault came as it was opened
   pub through_unopened : at.is_open ≡ false → OpensAtMostOne told told' →
       ReadsThrough plan before told' at.file (history told')
-  through_unopened shut one =
-      through_map (history told') (λ xs p.
-      prefix_past xs told told' one (prefix_to xs (read_first at.is_open told) (history told) (first_is false shut) p))
+  through_unopened shut one = through_map (history told') (λ xs p. prefix_past xs told told' one (rw shut at p))
 
 -- at the first file, nothing of which was read before
 pub through_start : (plan : Plan) (before told : Told) (at : Place) → at.file ≡ 0 →
@@ -240,10 +219,7 @@ pub through_start : (plan : Plan) (before told : Told) (at : Place) → at.file 
     read_first at.is_open told ≡ history (read_before plan.names (stream_of plan files) 0 before)) →
     ReadsThrough plan before told at.file (read_first at.is_open told)
 through_start plan before told at first all = λ k upto files are.
-    let Are : ℕ → Type 0 = λ n. AreToldWithFirsts n told plan files in
-    let P : ℕ → Type 0 = λ n.
-    IsPrefix (history (read_before plan.names (stream_of plan files) n before)) (read_first at.is_open told) in
     let none : k ≡ 0 = omega arith in
-    subst P (sym none)
+    rw none
     (prefix_is (history (read_before plan.names (stream_of plan files) 0 before)) (read_first at.is_open told)
-    (sym (all files (subst Are none are))))
+    (sym (all files (rw none at are))))

@@ -5,7 +5,7 @@ use Rattle.ring_blocks.specs.declared.Entry.{Entry}
 use Rattle.stream_model.specs.Blocks.{whole_stream, joined_data, abandoned_stream, joined_bytes, ended_transfers, has_cut, is_over}
 use Rattle.stream_model.specs.BlockLaws.{BytesAreJoined, EndsAreCounted, StreamsStopOnce}
 use Rattle.disk_feeder.specs.declared.answers.FeedEnd.{FeedEnd}
-use Rattle.disk_feeder.specs.declared.answers.FeedEnd.TheVariants.{Whole, ReadFault, BadHeader, Gap, TooLong}
+use Rattle.disk_feeder.specs.declared.answers.FeedEnd.TheVariants.{Whole}
 use Rattle.disk_feeder.specs.declared.stream.Stream.{Stream}
 use Rattle.disk_feeder.specs.Plan.{Plan}
 use Rattle.disk_feeder.specs.Sources.{plan_of}
@@ -48,17 +48,8 @@ pub ending : BytesAreJoined → EndsAreCounted → StreamsStopOnce →
     IsEnding (length plan.starts) blocks end
 ending joined ends once plan size before current headers blocks (Whole bytes) s =
     of_whole joined ends once size (length plan.starts) before blocks bytes s.0 s.1 s.3
-ending joined ends once plan size before current headers blocks ReadFault s =
-    of_cut ends once size plan.max_bytes (length plan.starts) before current blocks ReadFault s.0 s.1 (λ k e. absurd cc)
-ending joined ends once plan size before current headers blocks (BadHeader file cause) s =
-    of_cut ends once size plan.max_bytes (length plan.starts) before current blocks (BadHeader file cause) s.0 s.1
-    (λ k e. absurd cc)
-ending joined ends once plan size before current headers blocks (Gap file expected found) s =
-    of_cut ends once size plan.max_bytes (length plan.starts) before current blocks (Gap file expected found) s.0 s.1
-    (λ k e. absurd cc)
-ending joined ends once plan size before current headers blocks (TooLong limit) s =
-    of_cut ends once size plan.max_bytes (length plan.starts) before current blocks (TooLong limit) s.0 s.1
-    (λ k e. absurd cc)
+ending joined ends once plan size before current headers blocks end s =
+    of_cut ends once size plan.max_bytes (length plan.starts) before current blocks end s.0 s.1 (λ k e. absurd cc)
 
 pub has_ended : (s : Stream) (told : Told) (headers blocks : List Entry) (end : FeedEnd) → s.end ≡ Some end →
     IsFeeding s told headers blocks →

@@ -1,10 +1,9 @@
 -- What comes of a stream, by what is due and by its end.
-use Rattle.std.proofs.Common.{◌≡◌, ◌≢◌, ℕ, ◌≤◌, List, inl, inr, Option, Some, None, length, sym, ap, ◌∙◌, subst, refl}
+use Rattle.std.proofs.Common.{◌≡◌, ◌≢◌, ℕ, inl, inr, Option, Some, None, ap, ◌∙◌, refl}
 use Rattle.std.proofs.lemmas.Bool.{cases_eq}
-use mathlib.Core.List.{IsPrefix}
-use Rattle.psr_base.specs.Told.{Told, history}
+use Rattle.psr_base.specs.Told.{Told}
 use Rattle.disk_feeder.specs.declared.answers.FeedEnd.{FeedEnd}
-use Rattle.disk_feeder.specs.declared.answers.FeedEnd.TheVariants.{Whole, ReadFault, BadHeader, Gap, TooLong}
+use Rattle.disk_feeder.specs.declared.answers.FeedEnd.TheVariants.{ReadFault}
 use Rattle.disk_feeder.specs.declared.due.Due.{Due}
 use Rattle.disk_feeder.specs.declared.due.Due.TheVariants.{Full, Last, Stopped}
 use Rattle.disk_feeder.specs.declared.place.Place.{Place}
@@ -13,8 +12,8 @@ use Rattle.disk_feeder.specs.declared.answers.FeedTurn.{FeedTurn}
 use Rattle.disk_feeder.specs.declared.answers.FeedTurn.TheVariants.{Moved, Waiting, Ended}
 use Rattle.disk_feeder.specs.declared.source.Source.{Source}
 use Rattle.disk_feeder.specs.Feeding.{GoesOn}
-use Rattle.disk_feeder.specs.History.{Fate, Running, Over, fate, fate_of, IsFated, StandsIf, read_before, read_first, ReadsUpTo, BreaksOffAt}
-use Rattle.disk_feeder.specs.Plan.{Plan, IsAmong, AreToldAt, opened_at}
+use Rattle.disk_feeder.specs.History.{Fate, Running, Over, fate, fate_of, IsFated, ReadsUpTo, BreaksOffAt}
+use Rattle.disk_feeder.specs.Plan.{Plan}
 use Rattle.disk_feeder.specs.Sources.{plan_of}
 use Rattle.disk_feeder.specs.Streams.{StreamRead}
 
@@ -23,21 +22,21 @@ pub fate_in : (due due' : Option Due) (end end' : Option FeedEnd) → due ≡ du
 fate_in due due' end end' d e = ap (λ (x : Option Due). fate x end) d ∙ ap (fate due') e
 
 pub goes_on : (due : Option Due) (end : Option FeedEnd) → due ≡ None → end ≡ None → fate due end ≡ Running
-goes_on due end d e = fate_in due None end None d e
+goes_on due end d e = rw (d, e) refl
 
 pub is_full : (due : Option Due) (end : Option FeedEnd) → due ≡ Some Full → end ≡ None → fate due end ≡ Running
-is_full due end d e = fate_in due (Some Full) end None d e
+is_full due end d e = rw (d, e) refl
 
 pub is_last : (due : Option Due) (end : Option FeedEnd) → due ≡ Some Last → end ≡ None → fate due end ≡ Running
-is_last due end d e = fate_in due (Some Last) end None d e
+is_last due end d e = rw (d, e) refl
 
 pub is_stopped : (due : Option Due) (end : Option FeedEnd) (stop : FeedEnd) → due ≡ Some (Stopped stop) → end ≡ None →
     fate due end ≡ fate_of stop
-is_stopped due end stop d e = fate_in due (Some (Stopped stop)) end None d e
+is_stopped due end stop d e = rw (d, e) refl
 
 pub has_ended : (due : Option Due) (end : Option FeedEnd) (stop : FeedEnd) → end ≡ Some stop →
     fate due end ≡ fate_of stop
-has_ended due end stop e = ap (fate due) e
+has_ended due end stop e = rw e refl
 
 -- a block that holds more: it is full, or nothing is due
 pub held_goes_on : (held size : ℕ) (due old : Option Due) (end : Option FeedEnd) → (held ≡ size → due ≡ Some Full) →
@@ -61,54 +60,28 @@ held_is_calm held size due old end full more none stopped =
 pub at_stop : (stop : FeedEnd) (plan : Plan) (before told : Told) (at : Place) →
     (stop ≡ ReadFault → BreaksOffAt plan before told at) → IsFated (fate_of stop) plan before told at
 at_stop ReadFault plan before told at broke = broke refl
-at_stop (Whole bytes) plan before told at broke = tt
-at_stop (BadHeader file cause) plan before told at broke = tt
-at_stop (Gap file expected found) plan before told at broke = tt
-at_stop (TooLong limit) plan before told at broke = tt
+at_stop stop plan before told at broke = tt
 
 -- a stream of this fate
 pub of_fate : (s : Stream) (f : Fate) (before told : Told) → fate s.due s.end ≡ f → StreamRead before told s →
     IsFated f (plan_of s.source) before told s.source.place
-of_fate s f before told is read =
-    let P : Fate → Type 0 = λ x. IsFated x (plan_of s.source) before told s.source.place in subst P is read
+of_fate s f before told is read = rw (← is) read
 
 -- so it is in the words of another plan and place
 pub to_fate : (s : Stream) (f : Fate) (plan : Plan) (at : Place) (before told : Told) → fate s.due s.end ≡ f →
     plan_of s.source ≡ plan → s.source.place ≡ at → IsFated f plan before told at → StreamRead before told s
-to_fate s f plan at before told is same here read =
-    let P : Fate → Type 0 = λ x. IsFated x (plan_of s.source) before told s.source.place in
-    let Q : Plan → Type 0 = λ x. IsFated f x before told s.source.place in
-    let R : Place → Type 0 = λ x. IsFated f plan before told x in
-    subst P (sym is) (subst Q (sym same) (subst R (sym here) read))
+to_fate s f plan at before told is same here read = rw (is, same, here) read
 
 -- plans of the same files
 pub same_files : (p q : Plan) (before told : Told) (at : Place) → q.names ≡ p.names → q.starts ≡ p.starts →
     q.max_bytes ≡ p.max_bytes → ReadsUpTo p before told at → ReadsUpTo q before told at
 same_files p q before told at names starts limit reads =
-    let Known : List (List ℕ) → List ℕ → ℕ → Type 0 = λ ns ss m.
-    (files : List (List ℕ)) → AreToldAt (IsAmong (opened_at at) ss (length ns)) told ns files →
-    StandsIf at.is_open ns (record { files = files; starts = ss; max_bytes = m }) before told at in
-    let Through : List (List ℕ) → List ℕ → ℕ → Type 0 = λ ns ss m.
-    (k : ℕ) → k ≤ at.file → (files : List (List ℕ)) → AreToldAt (IsAmong k ss (length ns)) told ns files →
-    IsPrefix (history (read_before ns (record { files = files; starts = ss; max_bytes = m }) k before))
-    (read_first at.is_open told) in
-    record { known = of_parts Known reads.known; through = of_parts Through reads.through }
-  where
-    of_parts : (Of : List (List ℕ) → List ℕ → ℕ → Type 0) → Of p.names p.starts p.max_bytes →
-        Of q.names q.starts q.max_bytes
-    of_parts Of was =
-        let P : List (List ℕ) → Type 0 = λ ns. Of ns q.starts q.max_bytes in
-        let Q : List ℕ → Type 0 = λ ss. Of p.names ss q.max_bytes in
-        let R : ℕ → Type 0 = λ m. Of p.names p.starts m in
-        subst P (sym names) (subst Q (sym starts) (subst R (sym limit) was))
+    record { known = rw (names, starts, limit) reads.known; through = rw (names, starts, limit) reads.through }
 
 -- the same of the files that another state of the source reads
 pub reads_of : (mid next : Source) (plan : Plan) (before told : Told) → mid ≡ next → plan_of next ≡ plan →
     ReadsUpTo plan before told next.place → ReadsUpTo (plan_of mid) before told mid.place
-reads_of mid next plan before told source same reads =
-    let P : Source → Type 0 = λ x. ReadsUpTo (plan_of x) before told x.place in
-    let Q : Plan → Type 0 = λ x. ReadsUpTo x before told next.place in
-    subst P (sym source) (subst Q (sym same) reads)
+reads_of mid next plan before told source same reads = rw (source, same) reads
 
 -- after the last block of a transfer
 pub after_last : (mid new : Stream) (turn : FeedTurn) (before told : Told) → GoesOn mid new turn →

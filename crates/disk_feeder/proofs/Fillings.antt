@@ -11,7 +11,6 @@ use Rattle.disk_feeder.specs.declared.due.Due.{Due}
 use Rattle.disk_feeder.specs.declared.due.Due.TheVariants.{Full, Stopped}
 use Rattle.disk_feeder.specs.declared.place.Place.{Place}
 use Rattle.disk_feeder.specs.Plan.{Plan}
-use Rattle.disk_feeder.specs.Reading.{HasEnded}
 use Rattle.disk_feeder.specs.Sources.{ComesEarly}
 use Rattle.disk_feeder.specs.Filling.{FillsTo, DueIs, IsFilled}
 
@@ -25,8 +24,7 @@ sealed_more : StreamsGrow → (size size' : ℕ) (before : List (List ℕ)) (cur
     blocks ≡ whole_stream size before ++ full_entries size current fulls →
     blocks ≡ whole_stream size' before ++ full_entries size' (current ++ piece) fulls
 sealed_more grow size size' before current piece fulls blocks same few is =
-    is ∙ ap (λ (es : List Entry). whole_stream size before ++ es) (sym (grow.full size current piece fulls few))
-    ∙ ap (λ (n : ℕ). whole_stream n before ++ full_entries n (current ++ piece) fulls) (sym same)
+    rw (same, grow.full size current piece fulls few) is
 
 -- a piece came behind the bytes that the block held
 pub filled_more : StreamsGrow → (plan : Plan) (told told' : Told) (at at' : Place) (block block' : List ℕ)
@@ -75,15 +73,13 @@ filled_stopped plan told told' at block block' held end blocks f fills same fron
       before = f.before;
       current = f.current;
       fulls = f.fulls;
-      sealed = f.sealed
-          ∙ ap (λ (m : ℕ). whole_stream m f.before ++ full_entries m f.current f.fulls) (sym same);
-      count = ap (λ (m : ℕ). f.fulls * m + held) same ∙ f.count;
-      kept = front ∙ f.kept ∙ ap (λ (m : ℕ). drop (f.fulls * m) f.current) (sym same);
-      next =
-          let P : ℕ → Type 0 = λ m. HasEnded plan told' at f.before f.current (m - held) end in (
-            record { transfers = has.transfers; since = has.since; total = has.total },
-            omega arith,
-            subst P (sym same) (fills f.before f.current has),
-            early,
-          );
+      sealed = rw same f.sealed;
+      count = rw same f.count;
+      kept = rw same (front ∙ f.kept);
+      next = (
+        record { transfers = has.transfers; since = has.since; total = has.total },
+        omega arith,
+        rw same (fills f.before f.current has),
+        early,
+      );
     }

@@ -1,5 +1,5 @@
 -- What was opened and read of the files, step by step.
-use Rattle.std.proofs.Common.{◌≡◌, ◌≢◌, ℕ, suc, ◌+◌, ◌-◌, ◌<◌, ◌≤◌, Bool, true, false, List, [], Option, Some, Result, Ok, Err, length, drop, refl, sym, ap, ◌∙◌, subst, arith, length-drop}
+use Rattle.std.proofs.Common.{◌≡◌, ◌≢◌, ℕ, suc, ◌+◌, ◌-◌, ◌<◌, ◌≤◌, Bool, List, [], Option, Some, Result, Ok, Err, length, drop, refl, sym, ap, ◌∙◌, arith, length-drop}
 use Rattle.std.specs.Prelude.{if◌then◌else◌}
 use Rattle.std.specs.Option.{option_map}
 use Rattle.std.proofs.lemmas.Bool.{eq-eqb, ne_eqb}
@@ -8,9 +8,8 @@ use Rattle.dada_model.specs.Fields.{HeaderText, HeaderRefusal, header_of}
 use Rattle.psr_base.specs.Told.{Told, history, left_to_read, opened, moved_by, at_end, ReadsJoin}
 use Rattle.stream_model.specs.Walk.{FileStream, file_at, begin_of, data_between, data_of, data_past}
 use Rattle.stream_model.specs.WalkLaws.{DataGrow, DataNone}
-use Rattle.disk_feeder.specs.declared.place.Place.{Place}
 use Rattle.disk_feeder.specs.Front.{front_of, front_in, BreaksAt}
-use Rattle.disk_feeder.specs.History.{files_read, firsts_read, file_name, name_of_first, first_of, read_before, data_so_far, IsShut, IsReadUpTo, IsBreaking, StandsIf, BreaksIf}
+use Rattle.disk_feeder.specs.History.{files_read, firsts_read, file_name, name_of_first, first_of, read_before, data_so_far, IsShut, IsReadUpTo, IsBreaking}
 use Rattle.disk_feeder.proofs.Fronts.{header_within}
 
 -- ---- a file's front and its data
@@ -32,33 +31,6 @@ data_length file h is =
     ap (λ (r : Result HeaderText HeaderRefusal). length (data_past file r)) is
     ∙ length-drop h.size file
     ∙ ap (λ (r : Result HeaderText HeaderRefusal). length file - front_in file r) (sym is)
-
--- ---- by whether the file is open
-
-pub stands_shut : (b : Bool) (names : List (List ℕ)) (s : FileStream) (before told : Told) (at : Place) → b ≡ false →
-    StandsIf b names s before told at → IsShut names s before told at.transfer at.file at.since
-stands_shut false names s before told at is stands = stands
-stands_shut true names s before told at is stands = absurd cc
-
-pub stands_open : (b : Bool) (names : List (List ℕ)) (s : FileStream) (before told : Told) (at : Place) → b ≡ true →
-    StandsIf b names s before told at → IsReadUpTo names s before told at.transfer at.file at.since
-stands_open true names s before told at is stands = stands
-stands_open false names s before told at is stands = absurd cc
-
-pub open_stands : (b : Bool) (names : List (List ℕ)) (s : FileStream) (before told : Told) (at : Place) → b ≡ true →
-    IsReadUpTo names s before told at.transfer at.file at.since → StandsIf b names s before told at
-open_stands true names s before told at is reading = reading
-open_stands false names s before told at is reading = absurd cc
-
-pub open_breaks : (b : Bool) (names : List (List ℕ)) (s : FileStream) (before told : Told) (at : Place) → b ≡ true →
-    IsReadUpTo names s before told at.transfer at.file at.since → BreaksIf b names s before told at
-open_breaks true names s before told at is reading = reading
-open_breaks false names s before told at is reading = absurd cc
-
-pub shut_breaks : (b : Bool) (names : List (List ℕ)) (s : FileStream) (before told : Told) (at : Place) → b ≡ false →
-    IsBreaking names s before told at.transfer at.file at.since → BreaksIf b names s before told at
-shut_breaks false names s before told at is breaking = breaking
-shut_breaks true names s before told at is breaking = absurd cc
 
 module _ (names : List (List ℕ)) (s : FileStream) (before told told' : Told) (transfer k count : ℕ) where
   abbrev file : List ℕ
@@ -87,8 +59,7 @@ module _ (names : List (List ℕ)) (s : FileStream) (before told told' : Told) (
   pub broken_on : IsShut names s before told transfer k count → BreaksAt name file told told' →
       IsBreaking names s before told' transfer k count
   broken_on was broke =
-      let P : Told → Type 0 = λ t. BreaksAt name file t told' in
-      record { begun = was.begun; broke = subst P was.told_is broke; count_is = was.count_is }
+      record { begun = was.begun; broke = rw (← was.told_is) broke; count_is = was.count_is }
 
   -- ---- it is read
 

@@ -1,12 +1,11 @@
 -- What a feeder stands for once the last block of a transfer is given.
-use Rattle.std.proofs.Common.{◌≡◌, ℕ, ◌+◌, ◌<◌, List, [], ◌∷◌, ◌++◌, None, Some, Bool, false, length, take, sym, ap, ◌∙◌, subst}
+use Rattle.std.proofs.Common.{◌≡◌, ℕ, ◌+◌, List, [], ◌∷◌, ◌++◌, None, Some, Bool, false, length, take, sym, ap, ◌∙◌, subst}
 use Rattle.psr_base.specs.Told.{Told}
 use Rattle.ring_blocks.specs.declared.Entry.{Entry}
 use Rattle.ring_blocks.specs.declared.Mark.TheVariants.{End}
 use Rattle.dada_hdu.specs.Answers.{entry}
 use Rattle.stream_model.specs.BlockLaws.{StreamsGrow}
 use Rattle.stream_model.specs.WalkLaws.{NoStopIsWhole}
-use Rattle.disk_feeder.specs.declared.answers.FeedEnd.{FeedEnd}
 use Rattle.disk_feeder.specs.declared.answers.FeedTurn.{FeedTurn}
 use Rattle.disk_feeder.specs.declared.answers.FeedTurn.TheVariants.{Moved, Waiting, Ended}
 use Rattle.disk_feeder.specs.declared.due.Due.TheVariants.{Last}
@@ -17,7 +16,7 @@ use Rattle.disk_feeder.specs.Plan.{Plan, AreAccepted, begin_at}
 use Rattle.disk_feeder.specs.Sources.{plan_of}
 use Rattle.disk_feeder.specs.Reading.{EndsTransfer}
 use Rattle.disk_feeder.specs.Streams.{IsSourceOver}
-use Rattle.disk_feeder.specs.Feeding.{header_entries, headers_sealed, IsRunning, IsFeeding, IsEnded, GoesOn}
+use Rattle.disk_feeder.specs.Feeding.{header_entries, headers_sealed, IsRunning, IsFeeding, GoesOn}
 use Rattle.disk_feeder.proofs.OfSource.{name_count, plan_place}
 use Rattle.disk_feeder.proofs.Runs.{feeds_running, feeds_ended, stream_is, with_due}
 use Rattle.disk_feeder.proofs.Sealings.{LastSealed, last_sealed, next_begun, whole_sealed}
@@ -37,35 +36,23 @@ go_on : NoStopIsWhole → (mid new : Stream) (told : Told) (headers blocks : Lis
     After mid told headers blocks → new.source ≡ mid.source → new.block ≡ mid.block → new.held ≡ mid.held →
     new.due ≡ mid.due → GoesOn mid new turn → IsFeeding new told headers blocks
 go_on whole mid new told headers blocks Moved a source block held due goes =
-    let P : Source → Type 0 = λ x. x.place.transfer < length x.starts.now in
-    let Q : Source → Type 0 = λ x. AreAccepted (plan_of x) in
     feeds_running new told headers blocks goes.2 (record {
-      there = subst P (sym source) goes.0;
-      accepted = subst Q (sym source) a.accepted;
-      sealed = a.headers_are
-          ∙ ap (λ (x : Source). header_entries (take x.place.transfer (plan_of x).headers)) (sym source)
-          ∙ ap (λ (b : Bool). header_entries (take (headers_sealed b new.source.place.transfer) (plan_of
-          new.source).headers)) (sym goes.1);
+      there = rw source goes.0;
+      accepted = rw source a.accepted;
+      sealed = rw (goes.1, source) a.headers_are;
       stream = stream_is new mid.source told mid.block.items 0 None blocks source (ap (λ v. v.items) block)
           (held ∙ a.held) (due ∙ a.due)
-          (next_begun 0 (plan_of mid.source) told mid.source.place mid.block.items a.sealed.before blocks mid.some
+          (next_begun (plan_of mid.source) told mid.source.place mid.block.items a.sealed.before blocks mid.some
           a.sealed.has a.sealed.stream);
     })
 go_on whole mid new told headers blocks (Waiting reader cleared) a source block held due goes = absurd goes
 go_on whole mid new told headers blocks (Ended end) a source block held due goes =
     let plan = plan_of mid.source in
-    let P : FeedEnd → Type 0 = λ e.
-    IsEnded plan told mid.source.place (length mid.block.items) headers blocks e in
-    let Q : Source → Type 0 = λ x.
-    IsEnded (plan_of x) told x.place (length mid.block.items) headers blocks end in
-    let R : ℕ → Type 0 = λ n. IsEnded (plan_of new.source) told new.source.place n headers blocks end in
     feeds_ended new told headers blocks end goes.2
     (record {
-      ended = subst R (sym (ap (λ v. length v.items) block))
-          (subst Q (sym source)
-          (subst P (sym goes.1)
+      ended = rw (source, block, goes.1)
           (whole_sealed whole plan told mid.source.place (length mid.block.items) headers blocks a.sealed goes.0
-          mid.source.headed a.over a.headers_are (plan_place mid.source).total)));
+          mid.source.headed a.over a.headers_are (plan_place mid.source).total);
       cut = λ failed files are. let all = goes.1 in absurd cc;
       past = λ failed. let all = goes.1 in absurd cc;
     })
@@ -76,9 +63,7 @@ begins_next : (source : Source) (next : Place) →
     source.place.file ≡ begin_at source.starts.now (length source.names.now) (source.place.transfer + 1) →
     next.file ≡ begin_at (plan_of source).starts (length (plan_of source).names) next.transfer
 begins_next source next moved over =
-    let P : Place → Type 0 = λ p.
-    p.file ≡ begin_at (plan_of source).starts (length (plan_of source).names) p.transfer in
-    subst P (sym moved)
+    rw moved
     (over ∙ ap (λ (n : ℕ). begin_at source.starts.now n (source.place.transfer + 1)) (sym (name_count source)))
 
 -- the blocks before the last one of a transfer
@@ -111,25 +96,19 @@ last_given grow whole old next mid new told headers headers' blocks more turn b 
     (with_due old told (Some Last) blocks b.due was.stream) (n.read told) is in
     let size = length old.block.items in
     let moved : next.place.transfer ≡ at.transfer + 1 = ap (λ (p : Place). p.transfer) n.place in
-    let P : Plan → Type 0 = λ x. LastSealed x told next.place size more in
-    let Q : Source → Type 0 = λ x. LastSealed (plan_of x) told x.place size more in
-    let R : ℕ → Type 0 = λ k. LastSealed (plan_of mid.source) told mid.source.place k more in
-    let S : Plan → Type 0 = λ x. AreAccepted x in
-    let T : Source → Type 0 = λ x. AreAccepted (plan_of x) in
-    let U : Plan → Type 0 = λ x. next.place.file ≡ begin_at x.starts (length x.names) next.place.transfer in
-    let V : Source → Type 0 = λ x.
-    x.place.file ≡ begin_at (plan_of x).starts (length (plan_of x).names) x.place.transfer in
+    let P : Plan → Type 0 = λ x. AreAccepted x in
+    let Q : Plan → Type 0 = λ x. next.place.file ≡ begin_at x.starts (length x.names) next.place.transfer in
     go_on whole mid new told headers' more turn
     (record {
-      sealed = subst R (sym n.size) (subst Q (sym n.source) (subst P (sym n.plan) last));
-      accepted = subst T (sym n.source) (subst S (sym n.plan) was.accepted);
+      sealed = rw (n.size, n.source, n.plan) last;
+      accepted = rw n.source (subst P (sym n.plan) was.accepted);
       headers_are =
           same ∙ was.sealed
           ∙ ap (λ (d : Bool). header_entries (take (headers_sealed d at.transfer) plan.headers)) b.header
           ∙ ap (λ (k : ℕ). header_entries (take k plan.headers)) (sym moved)
           ∙ ap (λ (x : Plan). header_entries (take next.place.transfer x.headers)) (sym n.plan)
           ∙ ap (λ (x : Source). header_entries (take x.place.transfer (plan_of x).headers)) (sym n.source);
-      over = subst V (sym n.source) (subst U (sym n.plan) (begins_next old.source next.place n.place b.over.1));
+      over = rw n.source (subst Q (sym n.plan) (begins_next old.source next.place n.place b.over.1));
       held = n.held;
       due = n.due;
     }) source block held due goes

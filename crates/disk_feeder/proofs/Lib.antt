@@ -7,7 +7,6 @@ pub mod Prefixes
 pub mod Reaching
 pub mod Histories
 pub mod Fates
-pub mod Openings
 pub mod OfSource
 pub mod Fulls
 pub mod Readings

@@ -1,10 +1,9 @@
 -- A fault of calm inputs, which comes only at a file that isn't told.
-use Rattle.std.proofs.Common.{◌≡◌, ℕ, ◌+◌, ◌<◌, List, [], Option, Some, None, length, sym, ap, ◌∙◌, subst, inl, inr, arith}
-use Rattle.std.specs.Prelude.{◌⊎◌, IsSome, slice_index_or}
+use Rattle.std.proofs.Common.{◌≡◌, ℕ, ◌+◌, Some, None, length, ap, inl, inr, arith}
+use Rattle.std.specs.Prelude.{IsSome}
 use Rattle.psr_base.specs.Told.{Told}
 use Rattle.disk_feeder.specs.declared.answers.FeedEnd.TheVariants.{ReadFault}
 use Rattle.disk_feeder.specs.declared.due.Due.TheVariants.{Stopped}
-use Rattle.disk_feeder.specs.declared.place.Place.{Place}
 use Rattle.disk_feeder.specs.declared.source.Source.{Source}
 use Rattle.disk_feeder.specs.declared.stream.Stream.{Stream}
 use Rattle.disk_feeder.specs.Plan.{Plan, begin_at}
@@ -17,16 +16,10 @@ use Rattle.disk_feeder.proofs.Streams.{begin_most}
 pub missing_of : (old new : Source) (told told' : Told) → plan_of new ≡ plan_of old → new.place ≡ old.place →
     told'.bytes_under ≡ told.bytes_under → IsUntold told old → IsUntold told' new
 missing_of old new told told' plan place names was =
-    let named : slice_index_or (plan_of new).names new.place.file [] ≡ current_name old =
-    ap (λ (p : Plan). slice_index_or p.names new.place.file []) plan
-    ∙ ap (λ (at : Place). slice_index_or (plan_of old).names at.file []) place in
-    let There : Plan → Type 0 = λ p. new.place.file < length p.names in
-    let At : Place → Type 0 = λ at. at.file < length (plan_of old).names in
-    let Holds : Option (List ℕ) → Type 0 = λ o. IsSome o in
+    let same = ap (λ (p : Plan). p.names) plan in
     record {
-      there = subst There (sym plan) (subst At (sym place) was.there);
-      untold = λ some. was.untold (subst Holds (ap (λ (f : List ℕ → Option (List ℕ)). f (current_name new)) names
-          ∙ ap told.bytes_under named) some);
+      there = rw (same, place) was.there;
+      untold = λ some. was.untold (rw (names, same, place) at some);
     }
 
 -- a file that was to be opened or read
@@ -45,8 +38,5 @@ missing_here source told more untold =
 -- a call that finds one due, where it had not ended
 pub fault_due : (s : Stream) (told : Told) → s.end ≡ None →
     (s.due ≡ Some (Stopped ReadFault) → IsUntold told s.source) → FaultIsUntold told s
-fault_due s told running missing = by_fault
-  where
-    by_fault : (s.due ≡ Some (Stopped ReadFault)) ⊎ (s.end ≡ Some ReadFault) → IsUntold told s.source
-    by_fault (inl due) = missing due
-    by_fault (inr end) = absurd cc
+fault_due s told running missing (inl due) = missing due
+fault_due s told running missing (inr end) = absurd cc

@@ -1,5 +1,5 @@
 -- Files of which only those are told that are needed.
-use Rattle.std.proofs.Common.{◌≡◌, ℕ, ◌+◌, ◌<◌, ◌≤◌, Bool, true, false, List, [], Option, Some, length, refl, sym, ap, ◌∙◌, subst, inl, inr, arith}
+use Rattle.std.proofs.Common.{◌≡◌, ℕ, ◌+◌, ◌<◌, ◌≤◌, Bool, true, false, List, [], Option, length, sym, ap, ◌∙◌, inl, inr, arith}
 use Rattle.std.specs.Prelude.{slice_index_or, if◌then◌else◌}
 use Rattle.psr_base.specs.Told.{Told}
 use Rattle.disk_feeder.specs.declared.place.Place.{Place}
@@ -27,17 +27,8 @@ pub told_fewer : (few many : ℕ) (told : Told) (plan : Plan) (files : List (Lis
     AreToldTo many told plan files → AreToldTo few told plan files
 told_fewer few many told plan files less are = record {
   count = are.count;
-  each = λ k below needed. are.each k below (more k needed);
+  each = λ k below needed. are.each k below (omega arith);
 }
-  where
-    more : (k : ℕ) → k < few → k < many
-    more k below = omega arith
-
--- a file of the first ones is told
-pub told_within : (opened : ℕ) (told : Told) (plan : Plan) (files : List (List ℕ)) (k : ℕ) →
-    AreToldTo opened told plan files → k < length plan.names → k < opened →
-    told.bytes_under (slice_index_or plan.names k []) ≡ Some (slice_index_or files k [])
-told_within opened told plan files k are below within = are.each k below within
 
 -- ---- and the first file of each transfer
 
@@ -62,14 +53,6 @@ firsts_aside opened told plan files are = record {
   each = λ k below within. are.each k below (inl within);
 }
 
-pub told_first : (opened : ℕ) (told : Told) (plan : Plan) (files : List (List ℕ)) (transfer : ℕ) →
-    AreToldWithFirsts opened told plan files → transfer < length plan.starts →
-    begin_at plan.starts (length plan.names) transfer < length plan.names →
-    told.bytes_under (slice_index_or plan.names (begin_at plan.starts (length plan.names) transfer) [])
-    ≡ Some (slice_index_or files (begin_at plan.starts (length plan.names) transfer) [])
-told_first opened told plan files transfer are there below =
-    are.each (begin_at plan.starts (length plan.names) transfer) below (inr (transfer, there, refl))
-
 -- ---- those that were opened at a place
 
 opened_by : (b : Bool) (n : ℕ) → (if b then n + 1 else n) ≤ n + 1
@@ -91,8 +74,7 @@ firsts_opened at told plan files are =
 pub told_to_open : (at : Place) (told : Told) (plan : Plan) (files : List (List ℕ)) → at.is_open ≡ true →
     AreToldTo (opened_at at) told plan files → AreToldTo (at.file + 1) told plan files
 told_to_open at told plan files open_now are =
-    let P : Bool → Type 0 = λ b. AreToldTo (if b then at.file + 1 else at.file) told plan files in
-    subst P open_now are
+    rw open_now at are
 
 -- ---- those that were passed
 

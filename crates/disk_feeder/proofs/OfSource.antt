@@ -1,5 +1,5 @@
 -- What a source says of its plan and its place.
-use Rattle.std.proofs.Common.{◌≡◌, ℕ, ◌+◌, ◌<◌, true, false, List, [], Some, length, sym, ap, ◌∙◌, subst}
+use Rattle.std.proofs.Common.{◌≡◌, ℕ, ◌+◌, ◌<◌, true, List, [], Some, length, refl, sym, ap, ◌∙◌, subst, inr}
 use Rattle.std.specs.Prelude.{slice_index_or, string_bytes}
 use Rattle.std.proofs.lemmas.List.{length-map}
 use Rattle.psr_base.specs.Told.{Told}
@@ -8,10 +8,9 @@ use Rattle.stream_model.specs.WalkLaws.{AreStarts}
 use Rattle.disk_feeder.specs.declared.source.Source.{Source}
 use Rattle.disk_feeder.specs.Plan.{stream_of, begin_at, AreToldWithFirsts, IsPlace}
 use Rattle.disk_feeder.specs.Sources.{plan_of, first_name}
-use Rattle.disk_feeder.proofs.Needed.{told_first}
+use Rattle.disk_feeder.proofs.Reaching.{IsWithin}
 use Rattle.disk_feeder.proofs.Streams.{begin_is}
-use Rattle.disk_feeder.proofs.Openings.{Opens}
-use Rattle.disk_feeder.proofs.Readings.{Reads}
+use Rattle.disk_feeder.proofs.Readings.{IsHere}
 
 -- there are as many names as files
 pub name_count : (source : Source) → length (plan_of source).names ≡ length source.names.now
@@ -27,37 +26,31 @@ plan_place source =
     let P : ℕ → Type 0 = λ n. IsPlace source.starts.now n source.max_bytes source.place in
     subst P (sym (name_count source)) source.placed
 
--- a file that is to be opened
-pub opens : (source : Source) (told told' : Told) → source.place.is_open ≡ false →
-    source.place.transfer < length source.starts.now →
-    source.place.file < begin_at source.starts.now (length source.names.now) (source.place.transfer + 1) →
-    told'.bytes_under ≡ told.bytes_under → Opens (plan_of source) told told' source.place
-opens source told told' shut there upto names = record {
-  shut = shut;
-  there = there;
-  starts = plan_starts source;
-  from = (plan_place source).from;
-  upto =
-      let P : ℕ → Type 0 = λ n. source.place.file < begin_at source.starts.now n (source.place.transfer + 1) in
-      subst P (sym (name_count source)) upto;
-  within = (plan_place source).total;
-  names = names;
-}
-
--- a file that is read
-pub reads : (source : Source) (told told' : Told) → source.place.is_open ≡ true →
-    told'.bytes_under ≡ told.bytes_under → Reads (plan_of source) told told' source.place
-reads source told told' opened names =
+-- where it is, within a transfer
+pub is_within : (source : Source) → source.place.transfer < length source.starts.now →
+    IsWithin (plan_of source) source.place
+is_within source there =
     let at = plan_place source in
     record {
-      opened = opened;
-      there = (at.opened opened).0;
       starts = plan_starts source;
+      there = there;
       from = at.from;
-      upto = (at.opened opened).1;
+      upto = at.upto there;
+      opened = λ open_now. (at.opened open_now).1;
       within = at.total;
-      names = names;
     }
+
+-- its file, which is opened or read
+pub here : (source : Source) (told told' : Told) → source.place.transfer < length source.starts.now →
+    source.place.file < begin_at source.starts.now (length source.names.now) (source.place.transfer + 1) →
+    told'.bytes_under ≡ told.bytes_under → IsHere (plan_of source) told told' source.place
+here source told told' there before names =
+    record { place = is_within source there; before = rw (name_count source) before; names = names }
+
+pub here_open : (source : Source) (told told' : Told) → source.place.is_open ≡ true →
+    told'.bytes_under ≡ told.bytes_under → IsHere (plan_of source) told told' source.place
+here_open source told told' opened names =
+    here source told told' (source.placed.opened opened).0 (source.placed.opened opened).1 names
 
 -- the bytes of the first file of each transfer are told
 pub first_known : (opened : ℕ) (source : Source) (told : Told) (files : List (List ℕ)) →
@@ -67,5 +60,5 @@ pub first_known : (opened : ℕ) (source : Source) (told : Told) (files : List (
 first_known opened source told files are k there =
     let plan = plan_of source in
     ap (λ (n : ℕ). told.bytes_under (slice_index_or plan.names (begin_at plan.starts n k) [])) (sym (name_count source))
-    ∙ told_first opened told plan files k are there ((plan_starts source).within k there)
+    ∙ are.each (begin_at plan.starts (length plan.names) k) ((plan_starts source).within k there) (inr (k, there, refl))
     ∙ ap (λ (i : ℕ). Some (slice_index_or files i [])) (sym (begin_is plan files are.count k))

@@ -14,6 +14,7 @@ use Rattle.stream_model.specs.Walk.{FileStream, WalkStop, begin_of, transfer_dat
 use Rattle.stream_model.specs.WalkLaws.{IsIn, FilesAreInTransfers, DataJoin, FirstStopCounts, NoStopIsWhole, OneTransferMore}
 use Rattle.disk_feeder.specs.Reached.{CameTo}
 use Rattle.disk_feeder.proofs.Headers.{stop_blocks, stop_of_header}
+use Rattle.disk_feeder.proofs.Reaching.{k_least, goes_on}
 
 -- the laws that the walk is followed by
 pub record WalkIsKnown : Type 0 where
@@ -162,22 +163,13 @@ module _ (known : WalkIsKnown) (s : FileStream) (t k : ℕ) (before : List (List
   abbrev sealed : List Entry
   sealed = whole_stream size before ++ full_entries size current n
 
-  k_least : k ≤ c.to
-  k_least = elim c.next [ inl e ↦ omega arith | inr e ↦ let f = e.0 in omega arith ]
-
   k_most : k ≤ length s.files
-  k_most = let a = k_least in let b = c.most in omega arith
+  k_most = let a = k_least known.join s t k before current c in let b = c.most in omega arith
 
   -- the data go on to a later file of the transfer
-  goes_on : (last : ℕ) → c.to ≤ last →
+  more_is : (last : ℕ) → c.to ≤ last →
       data_between s.files (begin_of s t) last ≡ current ++ (c.left ++ data_between s.files c.to last)
-  goes_on last less =
-      let from = c.from in
-      let a = k_least in
-      let b = k_most in
-      sym (known.join s.files (begin_of s t) c.to last (omega arith) (omega arith) less)
-      ∙ ap (λ (xs : List ℕ). xs ++ data_between s.files c.to last) c.data_is
-      ∙ append_assoc current c.left (data_between s.files c.to last)
+  more_is last less = goes_on known.join s t k before current c last less
 
   abbrev rest_of : List ℕ
   rest_of = c.left ++ data_between s.files c.to (begin_of s (t + 1))
@@ -191,7 +183,7 @@ module _ (known : WalkIsKnown) (s : FileStream) (t k : ℕ) (before : List (List
       (known.streams.whole size before later current rest_of n some fits)
       (ap (λ (b : List (List ℕ)). whole_stream size (b ++ (current ++ rest_of) ∷ later)) c.earlier
       ∙ ap (λ (xs : List ℕ). whole_stream size (take t (walk_data s) ++ xs ∷ later))
-      (sym (goes_on (begin_of s (t + 1)) c.upto))
+      (sym (more_is (begin_of s (t + 1)) c.upto))
       ∙ ap (whole_stream size) (split_data known.more s t u c.there less))
 
   -- and the stream that a stop in this transfer gives
@@ -207,7 +199,7 @@ module _ (known : WalkIsKnown) (s : FileStream) (t k : ℕ) (before : List (List
       (known.streams.here size s.max_bytes before current more n fits
       (le-div n (min (length (current ++ more)) (s.max_bytes - length (joined_data before))) size some (omega arith)))
       (ap (λ (b : List (List ℕ)). abandoned_stream size s.max_bytes b (current ++ more)) c.earlier
-      ∙ ap (abandoned_stream size s.max_bytes (take t (walk_data s))) (sym (goes_on last less)))
+      ∙ ap (abandoned_stream size s.max_bytes (take t (walk_data s))) (sym (more_is last less)))
 
   -- the stop comes past what was read
   past_read : (f : FirstStop s k) → c.to ≤ f.to

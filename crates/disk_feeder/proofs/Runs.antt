@@ -1,5 +1,5 @@
 -- A running feeder in the words of another state.
-use Rattle.std.proofs.Common.{◌≡◌, ℕ, ◌<◌, Bool, List, Option, Some, None, length, take, sym, ap, ◌∙◌, subst}
+use Rattle.std.proofs.Common.{◌≡◌, ℕ, List, Option, Some, None, sym, ap, ◌∙◌, subst}
 use Rattle.psr_base.specs.Told.{Told}
 use Rattle.ring_blocks.specs.declared.Entry.{Entry}
 use Rattle.ring_words.specs.declared.views.WriterView.{WriterView}
@@ -12,11 +12,10 @@ use Rattle.disk_feeder.specs.declared.due.Due.{Due}
 use Rattle.disk_feeder.specs.declared.source.Source.{Source}
 use Rattle.disk_feeder.specs.declared.stream.Stream.{Stream}
 use Rattle.disk_feeder.specs.Sources.{plan_of}
-use Rattle.disk_feeder.specs.Plan.{AreAccepted}
 use Rattle.disk_feeder.specs.Filling.{IsFilled}
 use Rattle.disk_feeder.specs.Streams.{IsStream}
 use Rattle.disk_feeder.specs.Turns.{sealed_headers, sealed_blocks}
-use Rattle.disk_feeder.specs.Feeding.{header_entries, headers_sealed, IsRunning, HasEndedAs, FeedsTo, IsFeeding}
+use Rattle.disk_feeder.specs.Feeding.{IsRunning, HasEndedAs, FeedsTo, IsFeeding}
 
 -- one that has not ended
 pub feeds_running : (s : Stream) (told : Told) (headers blocks : List Entry) → s.end ≡ None →
@@ -33,10 +32,7 @@ feeds_ended s told headers blocks end is was =
 -- the same sealed lists
 pub same_lists : (s : Stream) (told : Told) (headers headers' blocks blocks' : List Entry) → headers' ≡ headers →
     blocks' ≡ blocks → IsRunning s told headers blocks → IsRunning s told headers' blocks'
-same_lists s told headers headers' blocks blocks' e f was =
-    let P : List Entry → Type 0 = λ h. IsRunning s told h blocks' in
-    let Q : List Entry → Type 0 = λ b. IsRunning s told headers b in
-    subst P (sym e) (subst Q (sym f) was)
+same_lists s told headers headers' blocks blocks' e f was = rw (e, f) was
 
 pub full_keeps : (w w' : WriterView) (i c : ℕ) → IsFull w i c w' → w'.sealed ≡ w.sealed
 full_keeps w w' i c full = ap (λ (v : WriterView). v.sealed) full.in_turn.rest
@@ -56,37 +52,22 @@ headers_full s told pass pass' i c is full blocks was =
 pub stream_is : (s : Stream) (source : Source) (told : Told) (block : List ℕ) (held : ℕ) (due : Option Due)
     (blocks : List Entry) → s.source ≡ source → s.block.items ≡ block → s.held ≡ held → s.due ≡ due →
     IsFilled (plan_of source) told source.place block held due blocks → IsStream s told blocks
-stream_is s source told block held due blocks a b c d was =
-    let P : Source → Type 0 = λ x. IsFilled (plan_of x) told x.place s.block.items s.held s.due blocks in
-    let Q : List ℕ → Type 0 = λ x. IsFilled (plan_of source) told source.place x s.held s.due blocks in
-    let R : ℕ → Type 0 = λ x. IsFilled (plan_of source) told source.place block x s.due blocks in
-    let S : Option Due → Type 0 = λ x. IsFilled (plan_of source) told source.place block held x blocks in
-    subst P (sym a) (subst Q (sym b) (subst R (sym c) (subst S (sym d) was)))
+stream_is s source told block held due blocks a b c d was = rw (a, b, c, d) was
 
 -- another due
 pub with_due : (s : Stream) (told : Told) (due : Option Due) (blocks : List Entry) → s.due ≡ due →
     IsStream s told blocks → IsFilled (plan_of s.source) told s.source.place s.block.items s.held due blocks
-with_due s told due blocks is was =
-    let S : Option Due → Type 0 = λ x.
-    IsFilled (plan_of s.source) told s.source.place s.block.items s.held x blocks in
-    subst S is was
+with_due s told due blocks is was = rw (← is) was
 
 -- the same source, with other blocks
 pub runs_on : (old new : Stream) (told : Told) (headers headers' blocks blocks' : List Entry) →
     new.source ≡ old.source → new.header_due ≡ old.header_due → headers' ≡ headers →
     IsRunning old told headers blocks → IsStream new told blocks' → IsRunning new told headers' blocks'
 runs_on old new told headers headers' blocks blocks' source due same was stream =
-    let P : Source → Type 0 = λ x. x.place.transfer < length x.starts.now in
-    let Q : Source → Type 0 = λ x. AreAccepted (plan_of x) in
     record {
-      there = subst P (sym source) was.there;
-      accepted = subst Q (sym source) was.accepted;
-      sealed = same ∙ was.sealed
-          ∙ ap (λ (x : Source). header_entries (take (headers_sealed old.header_due x.place.transfer) (plan_of
-          x).headers))
-          (sym source)
-          ∙ ap (λ (b : Bool). header_entries (take (headers_sealed b new.source.place.transfer) (plan_of
-          new.source).headers)) (sym due);
+      there = rw source was.there;
+      accepted = rw source was.accepted;
+      sealed = rw (source, due) (same ∙ was.sealed);
       stream = stream;
     }
 
@@ -98,10 +79,9 @@ pub blocks_full : (old new : Stream) (told : Told) (pass pass' : HduWriter) (i c
     IsFeeding new told (sealed_headers pass') (sealed_blocks pass')
 blocks_full old new told pass pass' i c source block held due header_due is full header was =
     let same = full_keeps (writer_knows pass.blocks) (writer_knows pass'.blocks) i c full in
-    let P : List Entry → Type 0 = λ b. IsStream new told b in
     feeds_running new told (sealed_headers pass') (sealed_blocks pass') is
     (runs_on old new told (sealed_headers pass) (sealed_headers pass') (sealed_blocks pass) (sealed_blocks pass') source
     header_due (ap (λ (p : WriterPass). (writer_knows p).sealed) header) was
-    (subst P (sym same)
+    (rw same
     (stream_is new old.source told old.block.items old.held old.due (sealed_blocks pass) source
     (ap (λ v. v.items) block) held due was.stream)))

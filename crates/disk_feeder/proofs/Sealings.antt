@@ -1,5 +1,5 @@
 -- What a feeder stands for once a block is sealed.
-use Rattle.std.proofs.Common.{◌≡◌, ℕ, suc, ◌+◌, ◌-◌, ◌*◌, ◌<◌, ◌≤◌, List, [], ◌∷◌, ◌++◌, Some, None, length, take, drop, get_or, map, refl, sym, ap, ◌∙◌, subst, Option, append_assoc, arith}
+use Rattle.std.proofs.Common.{◌≡◌, ℕ, suc, ◌+◌, ◌-◌, ◌*◌, ◌<◌, ◌≤◌, List, [], ◌∷◌, ◌++◌, Some, None, length, take, drop, get_or, map, refl, sym, ap, ◌∙◌, Option, append_assoc, arith}
 use Rattle.std.specs.Prelude.{slice_get}
 use Rattle.std.proofs.lemmas.List.{append-nil, take_all, take_at, drop_all, take_more, map-append, get_or_past}
 use Rattle.std.proofs.lemmas.Option.{get_or_from_slice_get}
@@ -15,7 +15,7 @@ use Rattle.stream_model.specs.Walk as walk
 use Rattle.stream_model.specs.Walk.{FileStream, walk_data, walk_stop, walk_stream, stream_to, transfer_data}
 use Rattle.stream_model.specs.WalkLaws.{NoStopIsWhole}
 use Rattle.disk_feeder.specs.declared.answers.FeedEnd.{FeedEnd}
-use Rattle.disk_feeder.specs.declared.answers.FeedEnd.TheVariants.{Whole, ReadFault, BadHeader, Gap, TooLong}
+use Rattle.disk_feeder.specs.declared.answers.FeedEnd.TheVariants.{Whole, ReadFault}
 use Rattle.disk_feeder.specs.declared.due.Due.{Due}
 use Rattle.disk_feeder.specs.declared.due.Due.TheVariants.{Full, Last, Stopped}
 use Rattle.disk_feeder.specs.declared.place.Place.{Place}
@@ -23,7 +23,7 @@ use Rattle.disk_feeder.specs.Ends.{end_of}
 use Rattle.disk_feeder.specs.Plan.{Plan, stream_of, AreToldTo, opened_at, begin_at}
 use Rattle.disk_feeder.specs.Reading.{HasRead, HasEnded, IsFront, EndsReading}
 use Rattle.disk_feeder.specs.Sources.{IsEarly}
-use Rattle.disk_feeder.specs.Filling.{IsFilled, DueIs}
+use Rattle.disk_feeder.specs.Filling.{IsFilled}
 use Rattle.disk_feeder.specs.Feeding.{header_entries, IsWalkEnd, EndIs, StopsWalkAt, SealedAs, IsEnded, IsCutAt, IsCutPast}
 use Rattle.disk_feeder.proofs.Needed.{told_opened}
 use Rattle.disk_feeder.proofs.Fulls.{quotient_is, within_is}
@@ -63,17 +63,14 @@ pub emptied : (plan : Plan) (told : Told) (at : Place) (block block' : List ℕ)
     (blocks : List Entry) → length block' ≡ length block → IsFilled plan told at block 0 due blocks →
     IsFilled plan told at block' 0 due blocks
 emptied plan told at block block' due blocks same f =
-    let P : ℕ → Type 0 = λ n. f.fulls * n + 0 ≡ length f.current in
-    let Q : ℕ → Type 0 = λ n. DueIs plan told at f.before f.current n 0 due in
     record {
       before = f.before;
       current = f.current;
       fulls = f.fulls;
-      sealed = f.sealed
-          ∙ ap (λ (n : ℕ). whole_stream n f.before ++ full_entries n f.current f.fulls) (sym same);
-      count = subst P (sym same) f.count;
-      kept = f.kept ∙ ap (λ (n : ℕ). drop (f.fulls * n) f.current) (sym same);
-      next = subst Q (sym same) f.next;
+      sealed = rw same f.sealed;
+      count = rw same f.count;
+      kept = rw same f.kept;
+      next = rw same f.next;
     }
 
 -- ---- the rest of a transfer
@@ -93,19 +90,16 @@ transfer_sealed : StreamsGrow → (size : ℕ) (before : List (List ℕ)) (curre
     blocks ≡ whole_stream size before ++ full_entries size current fulls →
     blocks' ≡ blocks ++ entry End bytes ∷ [] → blocks' ≡ whole_stream size (before ++ current ∷ [])
 transfer_sealed grow size before current bytes fulls held blocks blocks' count less kept sealed is =
-    is
-    ∙ ap (λ (es : List Entry). es ++ last_entry bytes ∷ []) sealed
-    ∙ append_assoc (whole_stream size before) (full_entries size current fulls) (last_entry bytes ∷ [])
-    ∙ ap (λ (xs : List ℕ). whole_stream size before ++ (full_entries size current fulls ++ last_entry xs ∷ [])) kept
-    ∙ ap (λ (es : List Entry). whole_stream size before ++ es) (sym (last_entries size current fulls held count less))
-    ∙ sym (grow.transfer size before current)
+    rw (is, sealed, kept, grow.transfer size before current, last_entries size current fulls held count less)
+    (append_assoc (whole_stream size before) (full_entries size current fulls)
+    (last_entry (drop (fulls * size) current) ∷ []))
 
 -- the next transfer begins
-pub next_begun : (size : ℕ) (plan : Plan) (told : Told) (at : Place) (block : List ℕ) (before : List (List ℕ))
+pub next_begun : (plan : Plan) (told : Told) (at : Place) (block : List ℕ) (before : List (List ℕ))
     (blocks : List Entry) → 0 < length block → HasRead plan told at before [] →
     blocks ≡ whole_stream (length block) before → IsFilled plan told at block 0 None blocks
 unfolding full_entries
-next_begun size plan told at block before blocks some has is = record {
+next_begun plan told at block before blocks some has is = record {
   before = before;
   current = [];
   fulls = 0;
@@ -226,53 +220,32 @@ ends_known s at before current size fulls held blocks sealed ReadFault ends coun
       front = whole_stream size before ++ full_entries size current fulls;
       cut = cut ∙ ap (λ (es : List Entry). es ++ cut_entry ∷ []) are;
       begins = ends.begins size fulls (omega arith) (omega arith);
-      stream = is ∙ ap (λ (b : List (List ℕ)). abandoned_stream size s.max_bytes b current) ends.earlier
-          ∙ ap (abandoned_stream size s.max_bytes (take at.transfer (walk_data s)))
-          (sym (ap (take (length current)) ends.front ∙ take_at current ends.more (length current) refl));
+      stream = rw (
+        ap (take (length current)) ends.front,
+        take_at current ends.more (length current) refl,
+        ← ends.earlier,
+      ) is;
     }
-ends_known s at before current size fulls held blocks sealed (BadHeader file cause) ends count less are cut is =
-    record {
-      is = ends.is;
-      stream = is ∙ sym (ends.blocks size fulls held count (omega arith) (omega arith));
-    }
-ends_known s at before current size fulls held blocks sealed (Gap file expected found) ends count less are cut is =
-    record {
-      is = ends.is;
-      stream = is ∙ sym (ends.blocks size fulls held count (omega arith) (omega arith));
-    }
-ends_known s at before current size fulls held blocks sealed (TooLong limit) ends count less are cut is = record {
-  is = ends.is;
-  stream = is ∙ sym (ends.blocks size fulls held count (omega arith) (omega arith));
-}
+ends_known s at before current size fulls held blocks sealed end ends count less are cut is =
+    record { is = ends.is; stream = is ∙ sym (ends.blocks size fulls held count (omega arith) (omega arith)) }
 
 -- and its file is that of the place
 ends_there : (s : FileStream) (at : Place) (before : List (List ℕ)) (current : List ℕ) (room : ℕ) (end : FeedEnd) →
     EndsReading s at before current room end → StopsWalkAt end s at.file
 ends_there s at before current room (Whole bytes) ends = tt
 ends_there s at before current room ReadFault ends = tt
-ends_there s at before current room (BadHeader file cause) ends = ends.stops
-ends_there s at before current room (Gap file expected found) ends = ends.stops
-ends_there s at before current room (TooLong limit) ends = ends.stops
+ends_there s at before current room end ends = ends.stops
 
 sealed_early : (plan : Plan) (size : ℕ) (before : List (List ℕ)) (current : List ℕ) (headers blocks : List Entry)
     (end : FeedEnd) → IsEarly plan end → blocks ≡ abandoned_stream size plan.max_bytes before current →
     length before < length plan.starts → headers ≡ header_entries (take (length before + 1) plan.headers) →
     SealedAs plan size before current headers blocks end
 sealed_early plan size before current headers blocks (Whole bytes) early is less heads = absurd early
-sealed_early plan size before current headers blocks ReadFault early is less heads = (is, less, heads, early)
-sealed_early plan size before current headers blocks (BadHeader file cause) early is less heads = (
-  is,
-  less,
-  heads,
-  early,
-)
-sealed_early plan size before current headers blocks (Gap file expected found) early is less heads =
-    (is, less, heads, early)
-sealed_early plan size before current headers blocks (TooLong limit) early is less heads = (is, less, heads, early)
+sealed_early plan size before current headers blocks end early is less heads = (is, less, heads, early)
 
 -- an early end is not that of all data
 not_early : (plan : Plan) (end : FeedEnd) (bytes : ℕ) → IsEarly plan end → end ≡ Whole bytes → ⊥
-not_early plan end bytes early whole = let P : FeedEnd → Type 0 = λ e. IsEarly plan e in subst P whole early
+not_early plan end bytes early whole = rw whole at early
 
 pub cut_sealed : (plan : Plan) (told : Told) (at : Place) (block : List ℕ) (held : ℕ) (end : FeedEnd)
     (headers blocks blocks' : List Entry) → IsFilled plan told at block held (Some (Stopped end)) blocks →
@@ -315,8 +288,7 @@ cut_at plan told at block held end blocks blocks' f within is failed files are =
     let counts = f.next.0 in
     let total = counts.total in
     let since = counts.since in
-    let Ends : FeedEnd → Type 0 = λ e. HasEnded plan told at f.before f.current (size - held) e in
-    let ended : HasEnded plan told at f.before f.current (size - held) ReadFault = subst Ends failed f.next.2 in
+    let ended : HasEnded plan told at f.before f.current (size - held) ReadFault = rw (← failed) f.next.2 in
     let front : IsFront s at f.before f.current = ended.ends files are in
     let stream = cut_stream size plan.max_bytes f.before f.current f.fulls held blocks blocks' f.count f.next.1 (omega
     arith) f.sealed is in

@@ -10,20 +10,20 @@ use Rattle.stream_model.specs.Blocks.{full_entry, cut_entry, full_entries, whole
 use Rattle.stream_model.specs.BlockLaws.{EndsAreCounted}
 use Rattle.stream_model.specs.Walk.{FileStream, walk_stream}
 use Rattle.disk_feeder.specs.declared.answers.FeedEnd.{FeedEnd}
-use Rattle.disk_feeder.specs.declared.answers.FeedEnd.TheVariants.{Whole, ReadFault, BadHeader, Gap, TooLong}
+use Rattle.disk_feeder.specs.declared.answers.FeedEnd.TheVariants.{Whole, ReadFault}
 use Rattle.disk_feeder.specs.declared.due.Due.{Due}
-use Rattle.disk_feeder.specs.declared.due.Due.TheVariants.{Full, Last, Stopped}
+use Rattle.disk_feeder.specs.declared.due.Due.TheVariants.{Stopped}
 use Rattle.disk_feeder.specs.declared.place.Place.{Place}
 use Rattle.disk_feeder.specs.declared.stream.Stream.{Stream}
-use Rattle.disk_feeder.specs.Plan.{Plan, stream_of, AreTold, AreToldTo, opened_at}
+use Rattle.disk_feeder.specs.Plan.{Plan, stream_of, AreTold, opened_at}
 use Rattle.disk_feeder.specs.Reached.{WalkGoesOn}
-use Rattle.disk_feeder.specs.Reading.{IsEnd, EndsReading, judged_at}
+use Rattle.disk_feeder.specs.Reading.{EndsReading, judged_at}
 use Rattle.disk_feeder.specs.Sources.{plan_of}
 use Rattle.disk_feeder.specs.Filling.{DueIs}
 use Rattle.disk_feeder.specs.Feeding.{header_entries, headers_sealed, IsRunning, IsBeginning, HeadersKeepUp, SealedAs, FeedsTo, IsFeeding}
 use Rattle.disk_feeder.proofs.Fulls.{within_is}
 use Rattle.disk_feeder.proofs.Needed.{all_told}
-use Rattle.disk_feeder.proofs.OfSource.{plan_place, plan_starts}
+use Rattle.disk_feeder.proofs.OfSource.{is_within}
 use Rattle.disk_feeder.proofs.Reaching.{IsWithin, came_to}
 use Rattle.disk_feeder.proofs.Turning.{counts}
 
@@ -72,15 +72,6 @@ before_cut size max_bytes before current fulls held count less few = (
       (sym (within_is size max_bytes fulls held before current count less few)),
 )
 
-at_stop : (s : FileStream) (at : Place) (before : List (List ℕ)) (current : List ℕ) (size fulls held : ℕ)
-    (end : FeedEnd) →
-    IsEnd s at before current (size - held) end → fulls * size + held ≡ length current → held < size →
-    length (joined_data before) + length current ≤ s.max_bytes →
-    IsPrefix (whole_stream size before ++ full_entries size current fulls) (walk_stream size s)
-at_stop s at before current size fulls held end ends count less few =
-    let p = before_cut size s.max_bytes before current fulls held count less few in
-    (p.0, p.1 ∙ sym (ends.blocks size fulls held count (omega arith) (omega arith)))
-
 by_end : (s : FileStream) (at : Place) (before : List (List ℕ)) (current : List ℕ) (size fulls held : ℕ)
     (end : FeedEnd) → EndsReading s at before current (size - held) end → fulls * size + held ≡ length current →
     held < size → length (joined_data before) + length current ≤ s.max_bytes →
@@ -88,51 +79,24 @@ by_end : (s : FileStream) (at : Place) (before : List (List ℕ)) (current : Lis
 by_end s at before current size fulls held (Whole bytes) ends count less few = absurd ends
 by_end s at before current size fulls held ReadFault ends count less few =
     ends.begins size fulls (omega arith) (omega arith)
-by_end s at before current size fulls held (BadHeader file cause) ends count less few =
-    at_stop s at before current size fulls held (BadHeader file cause) ends count less few
-by_end s at before current size fulls held (Gap file expected found) ends count less few =
-    at_stop s at before current size fulls held (Gap file expected found) ends count less few
-by_end s at before current size fulls held (TooLong limit) ends count less few =
-    at_stop s at before current size fulls held (TooLong limit) ends count less few
-
--- all files are told, so those that were opened are
-told_now : (plan : Plan) (told : Told) (at : Place) (files : List (List ℕ)) → AreTold told plan.names files →
-    AreToldTo (opened_at at) told plan files
-told_now plan told at files are = all_told (λ k. k < opened_at at) told plan.names files are
+by_end s at before current size fulls held end ends count less few =
+    let p = before_cut size s.max_bytes before current fulls held count less few in
+    (p.0, p.1 ∙ sym (ends.blocks size fulls held count (omega arith) (omega arith)))
 
 by_due : WalkGoesOn → (plan : Plan) (told : Told) (at : Place) (before : List (List ℕ)) (current : List ℕ)
     (size fulls held : ℕ) (due : Option Due) → IsWithin plan at → DueIs plan told at before current size held due →
     fulls * size + held ≡ length current → 0 < size → (files : List (List ℕ)) → AreTold told plan.names files →
     IsPrefix (whole_stream size before ++ full_entries size current fulls) (walk_stream size (stream_of plan files))
-by_due goes plan told at before current size fulls held None w d count some files are =
-    goes (stream_of plan files) at.transfer at.file before current
-    (came_to plan told at before current w d.0 files (told_now plan told at files are)) size fulls some (omega arith)
-by_due goes plan told at before current size fulls held (Some Full) w d count some files are =
-    goes (stream_of plan files) at.transfer at.file before current
-    (came_to plan told at before current w d.0 files (told_now plan told at files are)) size fulls some (omega arith)
-by_due goes plan told at before current size fulls held (Some Last) w d count some files are =
-    goes (stream_of plan files) at.transfer at.file before current
-    (came_to plan told at before current w d.0 files (told_now plan told at files are)) size fulls some (omega arith)
 by_due goes plan told at before current size fulls held (Some (Stopped end)) w d count some files are =
     let total = d.0.total in
     let within = w.within in
     by_end (stream_of plan files) at before current size fulls held end
     (d.2.ends files (all_told (λ k. k < judged_at end at) told plan.names files are)) count d.1
     (omega arith)
-
--- where a stream is
-is_within : (s : Stream) → s.source.place.transfer < length s.source.starts.now →
-    IsWithin (plan_of s.source) s.source.place
-is_within s there =
-    let at = plan_place s.source in
-    record {
-      starts = plan_starts s.source;
-      there = there;
-      from = at.from;
-      upto = at.upto there;
-      opened = λ open_now. (at.opened open_now).1;
-      within = at.total;
-    }
+by_due goes plan told at before current size fulls held due w d count some files are =
+    goes (stream_of plan files) at.transfer at.file before current
+    (came_to plan told at before current w d.0 files (all_told (λ k. k < opened_at at) told plan.names files are)) size
+    fulls some (omega arith)
 
 pub begins : EndsAreCounted → WalkGoesOn → (s : Stream) (told : Told) (headers blocks : List Entry) →
     IsRunning s told headers blocks → IsBeginning (plan_of s.source) told (length s.block.items) blocks
@@ -150,8 +114,8 @@ begins ends goes s told headers blocks was =
       open_still = omega arith;
       uncut = ap has_cut f.sealed ∙ so_far_uncut ends size f.before f.current f.fulls;
       begins = λ files are.
-          let p = by_due goes plan told at f.before f.current size f.fulls s.held s.due (is_within s there) f.next
-          f.count s.some files are in
+          let p = by_due goes plan told at f.before f.current size f.fulls s.held s.due (is_within s.source there)
+          f.next f.count s.some files are in
           (p.0, ap (λ (es : List Entry). es ++ p.0) f.sealed ∙ p.1);
     }
 
@@ -193,15 +157,6 @@ of_running ends s told headers blocks was = by_mark s.header_due was.sealed
         keep_up (plan_of s.source).headers headers blocks (at.transfer + 1) at.transfer (omega arith) sealed ended
         (omega arith) (omega arith)
 
--- at an early end
-of_cut : EndsAreCounted → (plan : Plan) (size : ℕ) (before : List (List ℕ)) (current : List ℕ)
-    (headers blocks : List Entry) → length plan.headers ≡ length plan.starts →
-    blocks ≡ abandoned_stream size plan.max_bytes before current → length before < length plan.starts →
-    headers ≡ header_entries (take (length before + 1) plan.headers) → HeadersKeepUp plan.headers headers blocks
-of_cut ends plan size before current headers blocks headed is less sealed =
-    keep_up plan.headers headers blocks (length before + 1) (length before) (omega arith) sealed
-    (ap ended_transfers is ∙ ends.abandoned size plan.max_bytes before current) (omega arith) (omega arith)
-
 of_end : EndsAreCounted → (plan : Plan) (size : ℕ) (before : List (List ℕ)) (current : List ℕ)
     (headers blocks : List Entry) (end : FeedEnd) → length plan.headers ≡ length plan.starts →
     SealedAs plan size before current headers blocks end → HeadersKeepUp plan.headers headers blocks
@@ -210,14 +165,9 @@ of_end ends plan size before current headers blocks (Whole bytes) headed s =
     keep_up plan.headers headers blocks (length plan.headers) (length before) (omega arith)
     (s.2 ∙ ap header_entries (sym (take_all (length plan.headers) plan.headers (omega arith))))
     (ap ended_transfers s.0 ∙ ends.whole size before) (omega arith) (omega arith)
-of_end ends plan size before current headers blocks ReadFault headed s =
-    of_cut ends plan size before current headers blocks headed s.0 s.1 s.2
-of_end ends plan size before current headers blocks (BadHeader file cause) headed s =
-    of_cut ends plan size before current headers blocks headed s.0 s.1 s.2
-of_end ends plan size before current headers blocks (Gap file expected found) headed s =
-    of_cut ends plan size before current headers blocks headed s.0 s.1 s.2
-of_end ends plan size before current headers blocks (TooLong limit) headed s =
-    of_cut ends plan size before current headers blocks headed s.0 s.1 s.2
+of_end ends plan size before current headers blocks end headed s =
+    keep_up plan.headers headers blocks (length before + 1) (length before) (omega arith) s.2
+    (ap ended_transfers s.0 ∙ ends.abandoned size plan.max_bytes before current) (omega arith) (omega arith)
 
 pub headers_are : EndsAreCounted → (s : Stream) (told : Told) (headers blocks : List Entry) →
     IsFeeding s told headers blocks → HeadersKeepUp (plan_of s.source).headers headers blocks

@@ -1,5 +1,5 @@
 -- The files of a plan as a walk sees them.
-use Rattle.std.proofs.Common.{◌≡◌, ℕ, ◌+◌, ◌<◌, ◌≤◌, List, [], Option, Some, Result, Ok, length, get_or, sym, ap, ◌∙◌, subst, inl, inr, arith}
+use Rattle.std.proofs.Common.{◌≡◌, ℕ, ◌+◌, ◌<◌, ◌≤◌, List, [], Option, Some, Result, Ok, length, get_or, sym, ap, ◌∙◌, inl, inr, arith}
 use Rattle.std.proofs.lemmas.Bool.{cases_lt}
 use Rattle.std.proofs.lemmas.List.{get_or_past}
 use Rattle.std.specs.Prelude.{slice_get, slice_index_or}
@@ -13,7 +13,6 @@ use Rattle.stream_model.specs.WalkLaws.{AreStarts, IsIn}
 use Rattle.psr_base.specs.Told.{Told}
 use Rattle.disk_feeder.specs.declared.place.First.{First}
 use Rattle.disk_feeder.specs.Plan.{Plan, stream_of, begin_at, AreToldTo, AreAccepted, HeadersAreTold}
-use Rattle.disk_feeder.proofs.Needed.{told_within}
 
 -- the next transfer begins within the files, or past them
 pub begin_most : (starts : List ℕ) (count t : ℕ) → AreStarts starts count → t < length starts →
@@ -25,7 +24,7 @@ begin_most starts count t are there = elim (cases_lt (t + 1) (length starts)) [
 
 module _ (plan : Plan) (files : List (List ℕ)) (count : length files ≡ length plan.names) where
   pub starts_of : AreStarts plan.starts (length plan.names) → AreStarts plan.starts (length files)
-  starts_of h = let P : ℕ → Type 0 = λ n. AreStarts plan.starts n in subst P (sym count) h
+  starts_of h = rw count h
 
   pub begin_is : (t : ℕ) → begin_of (stream_of plan files) t ≡ begin_at plan.starts (length plan.names) t
   begin_is t = ap (λ (n : ℕ). slice_index_or plan.starts t n) count
@@ -54,7 +53,7 @@ pub first_header : (opened : ℕ) (plan : Plan) (told : Told) (files : List (Lis
 first_header opened plan told files t headers are below within header at =
     let k = begin_at plan.starts (length plan.names) t in
     ap (λ (i : ℕ). header_of (slice_index_or files i [])) (begin_is plan files are.count t)
-    ∙ headers t header at (slice_index_or files k []) (told_within opened told plan files k are below within)
+    ∙ headers t header at (slice_index_or files k []) (are.each k below within)
 
 -- it was accepted
 pub first_of : (plan : Plan) (s : FileStream) (t : ℕ) (first : First) → AreAccepted plan →

@@ -1,5 +1,5 @@
 -- What a turn asks of its parts.
-use Rattle.std.proofs.Common.{◌≡◌, ℕ, ◌+◌, ◌<◌, Bool, List, ◌++◌, Option, Some, None, length, take, sym, ap, ◌∙◌, subst, arith}
+use Rattle.std.proofs.Common.{◌≡◌, ℕ, ◌+◌, ◌<◌, List, ◌++◌, Option, Some, None, length, sym, ap, ◌∙◌, subst, arith}
 use Rattle.psr_base.specs.Told.{Told}
 use Rattle.ring_blocks.specs.declared.Entry.{Entry}
 use Rattle.dada_hdu.specs.declared.hdu.Hdu.{Hdu}
@@ -8,14 +8,14 @@ use Rattle.stream_model.specs.Blocks.{full_entries, whole_stream}
 use Rattle.stream_model.specs.BlockLaws.{StreamsAreShort}
 use Rattle.disk_feeder.specs.declared.answers.FeedEnd.{FeedEnd}
 use Rattle.disk_feeder.specs.declared.due.Due.{Due}
-use Rattle.disk_feeder.specs.declared.due.Due.TheVariants.{Full, Last, Stopped}
+use Rattle.disk_feeder.specs.declared.due.Due.TheVariants.{Last, Stopped}
 use Rattle.disk_feeder.specs.declared.place.Place.{Place}
 use Rattle.disk_feeder.specs.declared.stream.Stream.{Stream}
 use Rattle.disk_feeder.specs.Plan.{Plan, AreAccepted, begin_at}
 use Rattle.disk_feeder.specs.Sources.{plan_of}
 use Rattle.disk_feeder.specs.Filling.{IsCountOf, DueIs}
 use Rattle.disk_feeder.specs.Streams.{IsStream, KeepsStream, IsSourceOver}
-use Rattle.disk_feeder.specs.Feeding.{header_entries, headers_sealed, IsRunning, FeedsTo, IsFeeding, FitsRings}
+use Rattle.disk_feeder.specs.Feeding.{IsRunning, FeedsTo, IsFeeding, FitsRings}
 use Rattle.disk_feeder.proofs.OfSource.{name_count, plan_place}
 
 -- a feeder that has not ended runs
@@ -25,37 +25,28 @@ runs s told headers blocks is was =
     let P : Option FeedEnd → Type 0 = λ e. FeedsTo s told headers blocks e in subst P is was
 
 -- it runs on once the block was filled
-pub runs_filled : (old mid : Stream) (told told' : Told) (headers blocks : List Entry) → KeepsStream old mid →
-    IsRunning old told headers blocks → IsStream mid told' blocks → IsRunning mid told' headers blocks
-runs_filled old mid told told' headers blocks keeps was stream =
-    let P : Plan → Type 0 = λ p. AreAccepted p in
+pub runs_filled : (old mid : Stream) (told told' : Told) (headers blocks : List Entry) → old.end ≡ None →
+    IsFeeding old told headers blocks → KeepsStream old mid → (IsStream old told blocks → IsStream mid told' blocks) →
+    IsRunning mid told' headers blocks
+runs_filled old mid told told' headers blocks is feeding keeps fills =
+    let was = runs old told headers blocks is feeding in
     let starts : length mid.source.starts.now ≡ length old.source.starts.now =
     ap (λ (p : Plan). length p.starts) keeps.plan in
     let transfer = keeps.transfer in
     let there = was.there in
     record {
       there = omega arith;
-      accepted = subst P (sym keeps.plan) was.accepted;
-      sealed = was.sealed
-          ∙ ap (λ (b : Bool). header_entries (take (headers_sealed b old.source.place.transfer) (plan_of
-          old.source).headers)) (sym keeps.header_due)
-          ∙ ap (λ (t : ℕ). header_entries (take (headers_sealed mid.header_due t) (plan_of old.source).headers)) (sym
-          transfer)
-          ∙ ap (λ (p : Plan). header_entries (take (headers_sealed mid.header_due mid.source.place.transfer) p.headers))
-          (sym keeps.plan);
-      stream = stream;
+      accepted = let P : Plan → Type 0 = λ p. AreAccepted p in subst P (sym keeps.plan) was.accepted;
+      sealed = rw (keeps.header_due, keeps.transfer, ap (λ (p : Plan). p.headers) keeps.plan) was.sealed;
+      stream = fills was.stream;
     }
 
 -- the numbers of what was read
 pub counts : (plan : Plan) (told : Told) (at : Place) (before : List (List ℕ)) (current : List ℕ) (size held : ℕ)
     (due : Option Due) → DueIs plan told at before current size held due → IsCountOf at before current
-counts plan told at before current size held None d =
-    record { transfers = d.0.transfers; since = d.0.since; total = d.0.total }
-counts plan told at before current size held (Some Full) d =
-    record { transfers = d.0.transfers; since = d.0.since; total = d.0.total }
-counts plan told at before current size held (Some Last) d =
-    record { transfers = d.0.transfers; since = d.0.since; total = d.0.total }
 counts plan told at before current size held (Some (Stopped end)) d = d.0
+counts plan told at before current size held due d =
+    record { transfers = d.0.transfers; since = d.0.since; total = d.0.total }
 
 -- one more block may be sealed
 pub has_room : StreamsAreShort → (hdu : Hdu) (s : Stream) (told : Told) (headers blocks : List Entry) →
@@ -79,9 +70,7 @@ has_room short hdu s told headers blocks fits was =
 pub last_is : (s : Stream) (told : Told) (blocks : List Entry) (due : Due) → s.due ≡ Some due →
     IsStream s told blocks → due ≡ Last → (s.held < length s.block.items) × IsSourceOver s.source
 last_is s told blocks due is f last =
-    let P : Option Due → Type 0 = λ d.
-    DueIs (plan_of s.source) told s.source.place f.before f.current (length s.block.items) s.held d in
-    let d = subst P (is ∙ ap Some last) f.next in
+    let d = rw (is ∙ ap Some last) at f.next in
     let over = d.2 in (
       d.1,
       (

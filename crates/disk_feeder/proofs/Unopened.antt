@@ -1,6 +1,5 @@
 -- A fault of calm inputs, which comes only as a file is to be opened.
-use Rattle.std.proofs.Common.{◌≡◌, ◌+◌, Bool, false, Some, None, sym, ap, ◌∙◌, subst, inl, inr}
-use Rattle.std.specs.Prelude.{◌⊎◌, if◌then◌else◌}
+use Rattle.std.proofs.Common.{◌≡◌, false, Some, None, sym, ap, ◌∙◌, subst, inl, inr}
 use Rattle.psr_base.specs.Told.{Told}
 use Rattle.disk_feeder.specs.declared.answers.FeedEnd.TheVariants.{ReadFault}
 use Rattle.disk_feeder.specs.declared.due.Due.TheVariants.{Stopped}
@@ -8,36 +7,29 @@ use Rattle.disk_feeder.specs.declared.place.Place.{Place}
 use Rattle.disk_feeder.specs.declared.source.Source.{Source}
 use Rattle.disk_feeder.specs.declared.stream.Stream.{Stream}
 use Rattle.disk_feeder.specs.History.{ReadsUpTo, ReadsBefore}
-use Rattle.disk_feeder.specs.Plan.{Plan, stream_of, AreToldWithFirsts}
+use Rattle.disk_feeder.specs.Plan.{Plan}
 use Rattle.disk_feeder.specs.Sources.{plan_of, FailsToOpen}
 use Rattle.disk_feeder.specs.Feeding.{IsUnopened, FaultIsUnopened}
-use Rattle.disk_feeder.proofs.Histories.{stands_shut}
 
 -- where no file is open, those before the place were read
 reads_before : (plan : Plan) (before told : Told) (at : Place) → at.is_open ≡ false →
     ReadsUpTo plan before told at → ReadsBefore plan before told at
 reads_before plan before told at shut reads = λ files are.
-    let P : Bool → Type 0 = λ b. AreToldWithFirsts (if b then at.file + 1 else at.file) told plan files in
-    stands_shut at.is_open plan.names (stream_of plan files) before told at shut (reads.known files (subst P (sym shut) are))
+    rw shut at (reads.known files (rw shut are))
 
 -- a file that could not be opened
 pub not_opened : (old new : Source) (before told told' : Told) → plan_of new ≡ plan_of old → new.place ≡ old.place →
     FailsToOpen old told told' → ReadsUpTo (plan_of old) before told old.place → IsUnopened before told' new
 not_opened old new before told told' plan place fails reads =
     let P : Plan → Type 0 = λ p. ReadsBefore p before told' new.place in
-    let Q : Place → Type 0 = λ at. ReadsBefore (plan_of old) before told' at in
-    let R : Told → Type 0 = λ t. ReadsBefore (plan_of old) before t old.place in
     record {
       shut = ap (λ (at : Place). at.is_open) place ∙ fails.shut;
-      read = subst P (sym plan) (subst Q (sym place) (subst R (sym fails.fails.stays)
-          (reads_before (plan_of old) before told old.place fails.shut reads)));
+      read = subst P (sym plan) (rw (place, fails.fails.stays)
+          (reads_before (plan_of old) before told old.place fails.shut reads));
     }
 
 -- a call that finds one due, where it had not ended
 pub unopened_due : (s : Stream) (before told : Told) → s.end ≡ None →
     (s.due ≡ Some (Stopped ReadFault) → IsUnopened before told s.source) → FaultIsUnopened before told s
-unopened_due s before told running unopened = by_fault
-  where
-    by_fault : (s.due ≡ Some (Stopped ReadFault)) ⊎ (s.end ≡ Some ReadFault) → IsUnopened before told s.source
-    by_fault (inl due) = unopened due
-    by_fault (inr end) = absurd cc
+unopened_due s before told running unopened (inl due) = unopened due
+unopened_due s before told running unopened (inr end) = absurd cc

@@ -3,7 +3,7 @@ use Rattle.std.proofs.lemmas.List.{length-take}
 use Rattle.dada_model.specs.Fields.{HeaderText, header_of}
 use Rattle.dada_header.specs.Faults.{IsSizeRefusal}
 use Rattle.dada_header.specs.declared.faults.HeaderFault.{HeaderFault}
-use Rattle.dada_header.specs.declared.faults.HeaderFault.TheVariants.{Short, NotText, BadSize, Memory}
+use Rattle.dada_header.specs.declared.faults.HeaderFault.TheVariants.{Short, BadSize}
 use Rattle.psr_base.specs.Told.{Told, left_to_read, moved_by, filled_by, ReadsJoin}
 use Rattle.disk_feeder.specs.Front.{IsFrontRead, judged_after}
 use Rattle.disk_feeder.proofs.Fronts.{front_of_size, front_of_short, front_of_refused, header_within, judged_least, judged_is, none_unsized, none_short, size_is}
@@ -13,10 +13,9 @@ use Rattle.disk_feeder.proofs.front.read_front.Goals as goal
 unsized : (front file : List ℕ) (left : Option (List ℕ)) (fault : HeaderFault) → front ≡ take 4096 file →
     IsSizeRefusal front fault → left ≡ Some (drop 4096 file) → IsFrontRead front left file
 unsized front file left (Short had) first refusal is_left = front_of_short front file left first refusal.0 is_left
-unsized front file left (NotText place) first refusal is_left = absurd refusal
 unsized front file left BadSize first refusal is_left =
     front_of_refused front file left first refusal.0 refusal.1 is_left
-unsized front file left Memory first refusal is_left = absurd refusal
+unsized front file left fault first refusal is_left = absurd refusal
 
 -- the first bytes of a space
 from_start : (n : ℕ) (new old file : List ℕ) → take (0 + n) new ≡ take 0 old ++ take (4096 - 0) file →
@@ -59,9 +58,8 @@ all_first join n space told told' most long moved =
 none_refused : (front file : List ℕ) (fault : HeaderFault) (h : HeaderText) → front ≡ take 4096 file →
     IsSizeRefusal front fault → header_of file ≡ Ok h → ⊥
 none_refused front file (Short had) h first refusal is = none_short front file h first refusal.0 is
-none_refused front file (NotText place) h first refusal is = absurd refusal
 none_refused front file BadSize h first refusal is = none_unsized front file h first refusal.0 refusal.1 is
-none_refused front file Memory h first refusal is = absurd refusal
+none_refused front file fault h first refusal is = absurd refusal
 
 pub returns-in-Err-size_of-clause-whole : goal.returns-in-Err-size_of-clause-whole
 returns-in-Err-size_of-clause-whole g c = λ file known h is.

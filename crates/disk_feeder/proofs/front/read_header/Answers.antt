@@ -2,7 +2,7 @@ use Rattle.std.proofs.Common.{◌≡◌, ℕ, List, Option, Some, Ok, drop, take
 use Rattle.dada_model.specs.Fields.{HeaderText, header_of}
 use Rattle.dada_header.specs.Faults.{IsHeaderRefusal}
 use Rattle.dada_header.specs.declared.faults.HeaderFault.{HeaderFault}
-use Rattle.dada_header.specs.declared.faults.HeaderFault.TheVariants.{Short, NotText, BadSize, Memory}
+use Rattle.dada_header.specs.declared.faults.HeaderFault.TheVariants.{Memory}
 use Rattle.psr_base.specs.Told.{left_to_read, opened, moved_by}
 use Rattle.stream_model.specs.Walk.{data_of, data_past}
 use Rattle.disk_feeder.proofs.Fronts.{front_is}
@@ -11,10 +11,8 @@ use Rattle.disk_feeder.proofs.front.read_header.Goals as goal
 -- the fault of the first bytes is that of the file
 fault_of_file : (bytes file : List ℕ) (fault : HeaderFault) → header_of bytes ≡ header_of file →
     IsHeaderRefusal bytes fault → IsHeaderRefusal file fault
-fault_of_file bytes file (Short had) same refusal = sym same ∙ refusal
-fault_of_file bytes file (NotText place) same refusal = sym same ∙ refusal
-fault_of_file bytes file BadSize same refusal = sym same ∙ refusal
 fault_of_file bytes file Memory same refusal = refusal
+fault_of_file bytes file fault same refusal = sym same ∙ refusal
 
 -- what is left of a file past its header are its data
 left_is : (left : Option (List ℕ)) (file : List ℕ) (count : ℕ) (h : HeaderText) → left ≡ Some (drop count file) →

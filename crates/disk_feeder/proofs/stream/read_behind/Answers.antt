@@ -1,4 +1,4 @@
-use Rattle.std.proofs.Common.{◌≡◌, ◌+◌, ◌-◌, ◌≤◌, ℕ, List, ◌++◌, Result, Ok, Err, IfOk, length, take, sym, ap, ◌∙◌, subst, arith, rules}
+use Rattle.std.proofs.Common.{◌≡◌, ◌+◌, ◌-◌, ◌≤◌, ℕ, List, ◌++◌, Result, Ok, Err, IfOk, length, take, sym, ap, ◌∙◌, arith, rules}
 use Rattle.std.proofs.Math.Seq.{take-append-add}
 use Rattle.std.proofs.lemmas.List.{take-append-le, length-take-le}
 use Rattle.std.proofs.lemmas.Slice.{take-put_mid_below}
@@ -7,7 +7,7 @@ use Rattle.psr_base.specs.Told.{Told}
 use Rattle.disk_feeder.specs.declared.answers.FeedEnd.{FeedEnd}
 use Rattle.disk_feeder.specs.declared.place.Place.{Place}
 use Rattle.disk_feeder.specs.Plan.{Plan}
-use Rattle.disk_feeder.specs.Reading.{HasEnded, ReadsTo}
+use Rattle.disk_feeder.specs.Reading.{ReadsTo}
 use Rattle.disk_feeder.specs.Filling.{FillsTo}
 use Rattle.disk_feeder.specs.Sources.{plan_of}
 use Rattle.disk_feeder.proofs.stream.read_behind.Goals as goal
@@ -31,8 +31,7 @@ fills plan at at' told told' held k xs ys (Ok n) in_xs count bound reads = λ be
   reads before current has,
 )
 fills plan at at' told told' held k xs ys (Err end) in_xs count bound reads = λ before current has.
-    let P : ℕ → Type 0 = λ room. HasEnded plan told' at before current room end in
-    subst P count (reads before current has)
+    rw (← count) (reads before current has)
 
 pub returns-clause-read : goal.returns-clause-read
 returns-clause-read g c = record {

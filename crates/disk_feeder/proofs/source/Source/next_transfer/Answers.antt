@@ -1,11 +1,11 @@
-use Rattle.std.proofs.Common.{◌≡◌, ℕ, ◌+◌, Bool, false, List, length, sym, ◌∙◌, ap, subst}
+use Rattle.std.proofs.Common.{◌≡◌, ℕ, ◌+◌, false, List, length, sym, ◌∙◌, ap}
 use Rattle.psr_base.specs.Told.{Told}
 use Rattle.stream_model.specs.WalkLaws.{DataNone}
 use Rattle.disk_feeder.specs.declared.place.Place.{Place}
 use Rattle.disk_feeder.specs.History.{StandsIf}
 use Rattle.disk_feeder.specs.Plan.{Plan, stream_of, AreToldWithFirsts, opened_at, begin_at}
 use Rattle.disk_feeder.specs.Sources.{plan_of}
-use Rattle.disk_feeder.proofs.Histories.{next_on, stands_shut}
+use Rattle.disk_feeder.proofs.Histories.{next_on}
 use Rattle.disk_feeder.proofs.Streams.{begin_is}
 use Rattle.disk_feeder.proofs.OfSource.{name_count}
 use Rattle.disk_feeder.proofs.TransferEnds.{has_next}
@@ -28,11 +28,8 @@ next_shut : (plan : Plan) (before told : Told) (at : Place) (files : List (List 
     (record at { transfer = at.transfer + 1; since = 0 })
 next_shut plan before told at files are none shut over stands =
     let s = stream_of plan files in
-    let next : Place = record at { transfer = at.transfer + 1; since = 0 } in
-    let P : Bool → Type 0 = λ b. StandsIf b plan.names s before told next in
-    subst P (sym shut)
-    (next_on none plan.names s before told at.transfer at.file at.since
-    (stands_shut at.is_open plan.names s before told at shut stands)
+    rw shut
+    (next_on none plan.names s before told at.transfer at.file at.since (rw shut at stands)
     (over ∙ sym (begin_is plan files are.count (at.transfer + 1))))
 
 pub returns-clause-reads_on : goal.returns-clause-reads_on

@@ -1,4 +1,4 @@
-use Rattle.std.proofs.Common.{◌≡◌, ℕ, suc, ◌+◌, ◌<◌, List, [], Option, Some, length, get_or, map, refl, sym, ap, ◌∙◌, subst, inl, inr, arith}
+use Rattle.std.proofs.Common.{◌≡◌, ℕ, suc, ◌+◌, ◌<◌, List, [], Option, Some, length, get_or, map, refl, sym, ap, ◌∙◌, inl, inr, arith}
 use Rattle.std.specs.Prelude.{IsSome, slice_get, slice_index_or, string_bytes}
 use Rattle.std.proofs.lemmas.Bool.{cases_eq}
 use Rattle.std.proofs.lemmas.Option.{slice_get-get_or}
@@ -7,10 +7,10 @@ use mathlib.Core.List.{IsPrefix}
 use Rattle.psr_base.specs.Told.{Told, history, opened, moved_by}
 use Rattle.disk_feeder.specs.declared.source.Source.{Source}
 use Rattle.disk_feeder.specs.Plan.{begin_at}
-use Rattle.disk_feeder.specs.Sources.{first_name, KeepsHeaders, RefusesFirst}
+use Rattle.disk_feeder.specs.Sources.{first_name, KeepsHeaders}
 use Rattle.disk_feeder.specs.Front.{front_of, BreaksAt}
 use Rattle.disk_feeder.specs.History.{firsts_read}
-use Rattle.disk_feeder.specs.Beginning.{KeepsSource, FirstsRead, NamesFile}
+use Rattle.disk_feeder.specs.Beginning.{KeepsSource, FirstsRead}
 use Rattle.disk_feeder.proofs.Behind.{prefix_is, prefix_past}
 use Rattle.disk_feeder.proofs.source.Source.read_headers.Goals as goal
 
@@ -43,9 +43,7 @@ some_still : (old now : Source) (told told' : Told) (k : ℕ) → KeepsSource ol
     told'.bytes_under ≡ told.bytes_under → IsSome (told.bytes_under (first_name old k)) →
     IsSome (told'.bytes_under (first_name now k))
 some_still old now told told' k kept names some =
-    let P : Option (List ℕ) → Type 0 = λ o. IsSome o in
-    subst P (sym (ap (λ (f : List ℕ → Option (List ℕ)). f (first_name now k)) names
-    ∙ ap told.bytes_under (name_same old now k kept))) some
+    rw (names, name_same old now k kept) some
 
 -- no first header was read yet
 none_read : (name_of file_of : ℕ → List ℕ) (told : Told) → told ≡ firsts_read name_of file_of 0 told
@@ -94,9 +92,7 @@ breaks_next : (name_of file_of : ℕ → List ℕ) (t : ℕ) (old mid new : Told
     mid ≡ firsts_read name_of file_of t old → name ≡ name_of t → BreaksAt name (file_of t) mid new →
     BreaksAt (name_of t) (file_of t) (firsts_read name_of file_of t old) new
 breaks_next name_of file_of t old mid new name so_far named breaks =
-    let P : List ℕ → Type 0 = λ n. BreaksAt n (file_of t) mid new in
-    let Q : Told → Type 0 = λ m. BreaksAt (name_of t) (file_of t) m new in
-    subst Q so_far (subst P named breaks)
+    rw (← so_far, ← named) breaks
 
 pub loop-transfer-preserved : goal.loop-transfer-preserved
 loop-transfer-preserved g c =
@@ -162,12 +158,9 @@ returns-in-Err-clause-refused g c =
     record {
       transfer = t;
       there = below;
-      names =
-          let Q : ℕ → Type 0 = λ n. NamesFile c.in-Err.fault n in
-          subst Q same_number c.in-Err.ensures.refused.0;
+      names = rw (← same_number) c.in-Err.ensures.refused.0;
       refuses = λ file known.
-          let P : ℕ → Type 0 = λ n. RefusesFirst file n c.in-Err.fault in
-          subst P same_number
+          rw (← same_number)
           (c.in-Err.ensures.refused.1 file
           (told_still old now told told' t t file before.kept before.names refl known));
       earlier = λ k less file known.

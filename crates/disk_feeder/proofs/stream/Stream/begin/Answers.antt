@@ -9,10 +9,10 @@ use Rattle.stream_model.specs.WalkLaws.{DataNone}
 use Rattle.disk_feeder.specs.declared.place.Place.{Place}
 use Rattle.disk_feeder.specs.declared.source.Source.{Source}
 use Rattle.disk_feeder.specs.Beginning.{AreFirstFiles, FirstsRead}
-use Rattle.disk_feeder.specs.History.{Fate, firsts_read, first_of, name_of_first, read_before, read_first, StandsIf, IsFated, ReadsUpTo}
-use Rattle.disk_feeder.specs.Plan.{Plan, IsAmong, AreToldWithFirsts, opened_at, stream_of}
+use Rattle.disk_feeder.specs.History.{firsts_read, first_of, name_of_first, read_before, read_first, StandsIf, ReadsUpTo}
+use Rattle.disk_feeder.specs.Plan.{IsAmong, AreToldWithFirsts, opened_at, stream_of}
 use Rattle.disk_feeder.specs.Sources.{plan_of, first_place, first_name}
-use Rattle.disk_feeder.proofs.Fates.{goes_on, same_files}
+use Rattle.disk_feeder.proofs.Fates.{same_files}
 use Rattle.disk_feeder.proofs.Behind.{through_start}
 use Rattle.disk_feeder.proofs.Histories.{begun_open, begun_shut, open_first}
 use Rattle.disk_feeder.proofs.OfSource.{name_count, plan_starts, first_known}
@@ -46,18 +46,12 @@ begun none source before told at names one more headed read files are =
     let some = plan_starts source in
     let header = headed 0 some.some (first_of s 0) (known 0 some.some) in
     let Has : ℕ → Type 0 = λ k. header_of (file_at s k) ≡ Ok header.0 in
-    let P : Place → Type 0 = λ pl. StandsIf pl.is_open plan.names s before told pl in
     elim (cases_eq transfers 1) [
-      | inl is ↦ subst P (sym (one is))
+      | inl is ↦ rw (one is)
           (begun_open plan.names s before told header.0 (subst Has starts.first header.1) is starts.first none all)
-      | inr other ↦ subst P (sym (more other))
+      | inr other ↦ rw (more other)
           (begun_shut plan.names s before told other starts.first none all)
     ]
-
--- they are among those that are needed
-firsts_alone : (opened : ℕ) (told : Told) (plan : Plan) (files : List (List ℕ)) →
-    AreToldWithFirsts opened told plan files → AreToldWithFirsts 0 told plan files
-firsts_alone opened told plan files are = firsts_fewer 0 opened told plan files (omega arith) are
 
 -- so the files stand, and nothing else was read before
 begun_reads : DataNone → (source : Source) (before told : Told) (at : Place) → told.bytes_under ≡ before.bytes_under →
@@ -70,28 +64,22 @@ begun_reads none source before told at names one more headed read =
     let plan = plan_of source in
     let stands = begun none source before told at names one more headed read in
     record {
-      known = λ files are. stands files (firsts_alone (opened_at at) told plan files are);
-      through = through_start plan before told at (at_first source at one more) (λ files are.
-          first_read at.is_open plan.names (stream_of plan files) before told at
-          (at_first source at one more) (stands files are));
+      known = λ files are. stands files (firsts_fewer 0 (opened_at at) told plan files (omega arith) are);
+      through = through_start plan before told at at_first (λ files are.
+          first_read at.is_open (stream_of plan files) (stands files are));
     }
   where
-    at_first : (source : Source) (at : Place) →
-        (length source.starts.now ≡ 1 → at ≡ record first_place { is_open = true }) →
-        (length source.starts.now ≢ 1 → at ≡ first_place) → at.file ≡ 0
-    at_first source at one more = elim (cases_eq (length source.starts.now) 1) [
+    at_first : at.file ≡ 0
+    at_first = elim (cases_eq (length source.starts.now) 1) [
       | inl is ↦ ap (λ (pl : Place). pl.file) (one is)
       | inr other ↦ ap (λ (pl : Place). pl.file) (more other)
     ]
 
-    first_read : (b : Bool) (names : List (List ℕ)) (s : FileStream) (before told : Told) (at : Place) →
-        at.file ≡ 0 → StandsIf b names s before told at →
-        read_first b told ≡ history (read_before names s 0 before)
-    first_read false names s before told at first was =
-        ap history was.told_is ∙ ap (λ (k : ℕ). history (read_before names s k before)) first
-    first_read true names s before told at first was =
-        open_first names s before told at.transfer at.file at.since was
-        ∙ ap (λ (k : ℕ). history (read_before names s k before)) first
+    first_read : (b : Bool) (s : FileStream) → StandsIf b (plan_of source).names s before told at →
+        read_first b told ≡ history (read_before (plan_of source).names s 0 before)
+    first_read false s was = rw (← at_first) (ap history was.told_is)
+    first_read true s was =
+        rw (← at_first) (open_first (plan_of source).names s before told at.transfer at.file at.since was)
 
 pub returns-in-Ok-clause-reads : goal.returns-in-Ok-clause-reads
 returns-in-Ok-clause-reads g c =
@@ -102,11 +90,10 @@ returns-in-Ok-clause-reads g c =
     let before = g.I.Inputs.told c.args.inputs.now in
     let told = g.I.Inputs.told c.read_headers.new.inputs in
     let many : length mid.starts.now ≡ length old.source.starts.now = ap (λ s. length s.now) kept.starts in
-    let P : Fate → Type 0 = λ f. IsFated f (plan_of new) before told new.place in
     record {
       left = c.in-Ok.ensures.left;
       read = c.in-Ok.ensures.read;
-      begins = subst P (sym (goes_on old.due old.end c.requires.due c.requires.end))
+      begins = rw (c.requires.due, c.requires.end)
           (same_files (plan_of old.source) (plan_of new) before told new.place
           (ap (λ p. p.names) c.start.ensures.plan ∙ ap (λ n. map string_bytes n.now) kept.names)
           (ap (λ p. p.starts) c.start.ensures.plan ∙ ap (λ s. s.now) kept.starts)

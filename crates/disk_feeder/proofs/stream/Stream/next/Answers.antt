@@ -1,20 +1,6 @@
-use Rattle.std.proofs.Common.{◌≡◌, List, None, ◌∙◌}
-use Rattle.psr_base.specs.Told.{Told}
-use Rattle.ring_blocks.specs.declared.Entry.{Entry}
-use Rattle.disk_feeder.specs.declared.stream.Stream.{Stream}
-use Rattle.disk_feeder.specs.Streams.{IsStream, KeepsStream}
-use Rattle.disk_feeder.specs.Feeding.{IsRunning}
-use Rattle.disk_feeder.specs.Handing.{IsHanding}
+use Rattle.std.proofs.Common.{◌∙◌}
 use Rattle.disk_feeder.proofs.Turning.{runs, runs_filled, last_is}
 use Rattle.disk_feeder.proofs.stream.Stream.next.Goals as goal
-
--- the stream once its block was filled
-filled : (old mid : Stream) (told told' : Told) (blocks : List Entry) → old.end ≡ None →
-    (was : IsHanding old told blocks) → KeepsStream old mid → (IsStream old told blocks → IsStream mid told' blocks) →
-    IsRunning mid told' was.0 blocks
-filled old mid told told' blocks is was keeps fills =
-    let r = runs old told was.0 blocks is was.1 in
-    runs_filled old mid told told' was.0 blocks keeps r (fills r.stream)
 
 pub fill-due-requires-clause-within : goal.fill-due-requires-clause-within
 fill-due-requires-clause-within g c =
@@ -32,8 +18,9 @@ hand-requires-clause-last g c = λ is.
     let told = g.I.Inputs.told c.args.inputs.now in
     let told' = g.I.Inputs.told c.fill-due.new.inputs in
     let stands = c.requires.stands in
-    let run = filled old mid told told' stands.0 (c.pass_header.ensures.end ∙ c.requires.running)
-    (c.pass_header.ensures.hands told stands.0 stands.1) c.fill-due.ensures.kept (c.fill-due.ensures.filled stands.0) in
+    let passed = c.pass_header.ensures.hands told stands.0 stands.1 in
+    let run = runs_filled old mid told told' passed.0 stands.0 (c.pass_header.ensures.end ∙ c.requires.running) passed.1
+    c.fill-due.ensures.kept (c.fill-due.ensures.filled stands.0) in
     let last = last_is mid told' stands.0 c.fill-due.result c.fill-due.ensures.due run.stream is in
     record { short = last.0; over = last.1 }
 
@@ -44,7 +31,7 @@ returns-clause-hands g c = λ blocks was.
     let told = g.I.Inputs.told c.args.inputs.now in
     let told' = g.I.Inputs.told c.fill-due.new.inputs in
     let passed = c.pass_header.ensures.hands told blocks was in
-    let run = filled old mid told told' blocks (c.pass_header.ensures.end ∙ c.requires.running) passed
+    let run = runs_filled old mid told told' passed.0 blocks (c.pass_header.ensures.end ∙ c.requires.running) passed.1
     c.fill-due.ensures.kept (c.fill-due.ensures.filled blocks) in
     (passed.0, c.hand.ensures.hands told' passed.0 blocks run)
 

@@ -1,9 +1,7 @@
-use Rattle.std.proofs.Common.{◌≡◌, ◌<◌, false, List, None, length, take, refl, sym, ap, ◌∙◌, subst}
+use Rattle.std.proofs.Common.{◌≡◌, false, List, None, take, refl, ap, ◌∙◌}
 use Rattle.psr_base.specs.Told.{Told}
 use Rattle.ring_blocks.specs.declared.Entry.{Entry}
-use Rattle.disk_feeder.specs.declared.source.Source.{Source}
 use Rattle.disk_feeder.specs.declared.stream.Stream.{Stream}
-use Rattle.disk_feeder.specs.Plan.{AreAccepted}
 use Rattle.disk_feeder.specs.Sources.{plan_of}
 use Rattle.disk_feeder.specs.Feeding.{header_entries, headers_sealed}
 use Rattle.disk_feeder.specs.Handing.{IsHanding}
@@ -15,16 +13,14 @@ passed : (old new : Stream) (told : Told) (blocks : List Entry) → new.source �
     new.held ≡ old.held → new.due ≡ old.due → new.header_due ≡ false → new.end ≡ old.end → old.end ≡ None →
     IsHanding old told blocks → IsHanding new told blocks
 passed old new told blocks source block held due header end running was =
-    let r = runs old told was.0 blocks running was.1 in
-    let P : Source → Type 0 = λ x. x.place.transfer < length x.starts.now in
-    let Q : Source → Type 0 = λ x. AreAccepted (plan_of x) in (
+    let r = runs old told was.0 blocks running was.1 in (
       header_entries (take (headers_sealed new.header_due new.source.place.transfer) (plan_of new.source).headers),
       feeds_running new told
           (header_entries (take (headers_sealed new.header_due new.source.place.transfer) (plan_of
           new.source).headers)) blocks (end ∙ running)
           (record {
-            there = subst P (sym source) r.there;
-            accepted = subst Q (sym source) r.accepted;
+            there = rw source r.there;
+            accepted = rw source r.accepted;
             sealed = refl;
             stream = stream_is new old.source told old.block.items old.held old.due blocks source
                 (ap (λ v. v.items) block) held due r.stream;

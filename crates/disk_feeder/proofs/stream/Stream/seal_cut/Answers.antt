@@ -1,4 +1,4 @@
-use Rattle.std.proofs.Common.{ℕ, refl, sym, subst, Some, Bool, take, ap, ◌∙◌}
+use Rattle.std.proofs.Common.{refl, Some, Bool, take, ap, ◌∙◌}
 use Rattle.ring_ends.specs.declared.passes.WriterPass.{WriterPass}
 use Rattle.ring_ends.specs.Passes.{writer_knows}
 use Rattle.disk_feeder.specs.declared.due.Due.TheVariants.{Stopped}
@@ -6,8 +6,7 @@ use Rattle.disk_feeder.specs.History.{fate_of}
 use Rattle.disk_feeder.specs.Sources.{plan_of}
 use Rattle.disk_feeder.proofs.Fates.{is_stopped, of_fate}
 use Rattle.disk_feeder.specs.Turns.{sealed_headers, sealed_blocks}
-use Rattle.disk_feeder.specs.Plan.{stream_of}
-use Rattle.disk_feeder.specs.Feeding.{header_entries, headers_sealed, IsEnded, IsCutAt, IsCutPast}
+use Rattle.disk_feeder.specs.Feeding.{header_entries, headers_sealed}
 use Rattle.disk_feeder.proofs.Runs.{blocks_full, with_due}
 use Rattle.disk_feeder.proofs.Sealings.{cut_sealed, cut_at, cut_past}
 use Rattle.disk_feeder.proofs.OfSource.{plan_place}
@@ -19,11 +18,9 @@ returns-in-Ok-clause-feeds c = λ told was.
     let plan = plan_of old.source in
     let pass = c.args.pass.now in
     let pass' = c.write_block.new.pass in
-    let P : ℕ → Type 0 = λ n.
-    IsEnded plan told old.source.place n (sealed_headers pass') (sealed_blocks pass') c.args.end in
     let filled = with_due old told (Some (Stopped c.args.end)) (sealed_blocks pass) c.requires.due was.stream in
     record {
-      ended = subst P (sym c.write_block.ensures.space)
+      ended = rw c.write_block.ensures.space
           (cut_sealed plan told old.source.place old.block.items old.held c.args.end (sealed_headers pass')
           (sealed_blocks pass) (sealed_blocks pass') filled
           (plan_place old.source).total was.there
@@ -32,13 +29,11 @@ returns-in-Ok-clause-feeds c = λ told was.
           c.requires.header)
           c.in-Ok.ensures.sealed);
       cut = λ failed files are.
-          let Q : ℕ → Type 0 = λ n. IsCutAt (stream_of plan files) old.source.place n (sealed_blocks pass') in
-          subst Q (sym c.write_block.ensures.space)
+          rw c.write_block.ensures.space
           (cut_at plan told old.source.place old.block.items old.held c.args.end (sealed_blocks pass)
           (sealed_blocks pass') filled (plan_place old.source).total c.in-Ok.ensures.sealed failed files are);
       past = λ failed.
-          let Q : ℕ → Type 0 = λ n. IsCutPast plan told old.source.place n (sealed_blocks pass') in
-          subst Q (sym c.write_block.ensures.space)
+          rw c.write_block.ensures.space
           (cut_past plan told old.source.place old.block.items old.held c.args.end (sealed_blocks pass)
           (sealed_blocks pass') filled (plan_place old.source).total c.in-Ok.ensures.sealed);
     }

@@ -1,13 +1,10 @@
-use Rattle.std.proofs.Common.{◌≡◌, ◌+◌, ◌<◌, List, Bool, length, take, sym, ap, ◌∙◌, subst, arith}
+use Rattle.std.proofs.Common.{◌≡◌, Bool, length, take, ap, ◌∙◌, arith}
 use Rattle.ring_ends.specs.declared.passes.WriterPass.{WriterPass}
 use Rattle.ring_ends.specs.Passes.{writer_knows}
-use Rattle.ring_blocks.specs.declared.Entry.{Entry}
 use Rattle.disk_feeder.specs.declared.source.Source.{Source}
 use Rattle.disk_feeder.specs.History.{fate}
 use Rattle.disk_feeder.specs.Sources.{plan_of}
 use Rattle.disk_feeder.proofs.Fates.{fate_in, to_fate}
-use Rattle.disk_feeder.specs.Plan.{AreAccepted}
-use Rattle.disk_feeder.specs.Streams.{IsStream}
 use Rattle.disk_feeder.specs.Turns.{sealed_headers, sealed_blocks}
 use Rattle.disk_feeder.specs.Feeding.{header_entries, headers_sealed}
 use Rattle.disk_feeder.proofs.Runs.{feeds_running, headers_full, stream_is}
@@ -25,22 +22,17 @@ returns-in-Ok-clause-feeds c = λ told was.
     let t = old.source.place.transfer in
     let there = was.there in
     let headed : length headers ≡ length old.source.starts.now = old.source.headed in
-    let P : Source → Type 0 = λ x. x.place.transfer < length x.starts.now in
-    let Q : Source → Type 0 = λ x. AreAccepted (plan_of x) in
-    let R : List Entry → Type 0 = λ b. IsStream new told b in
     feeds_running new told (sealed_headers pass') (sealed_blocks pass')
     (c.begin_transfer.ensures.end ∙ c.requires.running)
     (record {
-      there = subst P (sym source) there;
-      accepted = subst Q (sym source) was.accepted;
-      sealed = header_sealed headers t c.header.result.now (sealed_headers pass) (sealed_headers pass') c.header.ensures
+      there = rw source there;
+      accepted = rw source was.accepted;
+      sealed = rw (c.begin_transfer.ensures.header_due, source)
+          (header_sealed headers t c.header.result.now (sealed_headers pass) (sealed_headers pass') c.header.ensures
           (omega arith)
           (was.sealed ∙ ap (λ (b : Bool). header_entries (take (headers_sealed b t) headers)) c.requires.header)
-          c.in-Ok.ensures.sealed
-          ∙ ap (λ (x : Source). header_entries (take (x.place.transfer + 1) (plan_of x).headers)) (sym source)
-          ∙ ap (λ (b : Bool). header_entries (take (headers_sealed b new.source.place.transfer) (plan_of
-          new.source).headers)) (sym c.begin_transfer.ensures.header_due);
-      stream = subst R (sym (ap (λ (p : WriterPass). (writer_knows p).sealed) c.write_header.ensures.blocks))
+          c.in-Ok.ensures.sealed);
+      stream = rw (ap (λ (p : WriterPass). (writer_knows p).sealed) c.write_header.ensures.blocks)
           (stream_is new old.source told old.block.items old.held old.due (sealed_blocks pass) source
           (ap (λ v. v.items) c.begin_transfer.ensures.block) c.begin_transfer.ensures.held c.begin_transfer.ensures.due
           was.stream);

@@ -2,15 +2,14 @@ use Rattle.std.proofs.Common.{◌≡◌, ℕ, List, ◌++◌, Option, Some, None
 use Rattle.psr_base.specs.Told.{Told}
 use Rattle.ring_blocks.specs.declared.Entry.{Entry}
 use Rattle.disk_feeder.specs.declared.due.Due.{Due}
-use Rattle.disk_feeder.specs.declared.answers.FeedEnd.{FeedEnd}
 use Rattle.disk_feeder.specs.declared.answers.FeedEnd.TheVariants.{ReadFault}
-use Rattle.disk_feeder.specs.declared.due.Due.TheVariants.{Last, Stopped}
+use Rattle.disk_feeder.specs.declared.due.Due.TheVariants.{Stopped}
 use Rattle.disk_feeder.specs.declared.stream.Stream.{Stream}
 use Rattle.disk_feeder.specs.declared.source.Source.{Source}
 use Rattle.disk_feeder.specs.declared.place.Place.{Place}
 use Rattle.disk_feeder.specs.Plan.{Plan}
 use Rattle.disk_feeder.specs.Filling.{IsFilled}
-use Rattle.disk_feeder.specs.History.{Running, fate, IsFated, ReadsUpTo, BreaksOffAt}
+use Rattle.disk_feeder.specs.History.{Running, ReadsUpTo, BreaksOffAt}
 use Rattle.disk_feeder.specs.Sources.{plan_of, HasMore}
 use Rattle.disk_feeder.specs.Streams.{StreamRead}
 use Rattle.disk_feeder.proofs.Fates.{goes_on, held_goes_on, held_is_calm, at_stop, of_fate, to_fate}
@@ -24,22 +23,7 @@ moved : (plan plan' : Plan) (told : Told) (at at' : Place) (block block' : List 
     (blocks : List Entry) → plan' ≡ plan → at' ≡ at → block' ≡ block → IsFilled plan told at block held due blocks →
     IsFilled plan' told at' block' held due blocks
 moved plan plan' told at at' block block' held due blocks p q r f =
-    let P : Plan → Type 0 = λ x. IsFilled x told at' block' held due blocks in
-    let Q : Place → Type 0 = λ x. IsFilled plan told x block' held due blocks in
-    let R : List ℕ → Type 0 = λ x. IsFilled plan told at x held due blocks in
-    subst P (sym p) (subst Q (sym q) (subst R (sym r) f))
-
-due_none : (plan : Plan) (told : Told) (at : Place) (block : List ℕ) (held : ℕ) (due : Option Due)
-    (blocks : List Entry) → due ≡ None → IsFilled plan told at block held due blocks →
-    IsFilled plan told at block held None blocks
-due_none plan told at block held due blocks is f =
-    let P : Option Due → Type 0 = λ x. IsFilled plan told at block held x blocks in subst P is f
-
--- a slice of the whole block
-sliced : (plan : Plan) (told : Told) (at : Place) (slice block : List ℕ) (held : ℕ) (blocks : List Entry) →
-    slice ≡ block → IsFilled plan told at block held None blocks → IsFilled plan told at slice held None blocks
-sliced plan told at slice block held blocks is f =
-    let R : List ℕ → Type 0 = λ x. IsFilled plan told at x held None blocks in subst R (sym is) f
+    rw (p, q, r) f
 
 pub returns-in-Ok-clause-filled : goal.returns-in-Ok-clause-filled
 returns-in-Ok-clause-filled g c = λ blocks was.
@@ -59,8 +43,7 @@ returns-in-Ok-clause-filled g c = λ blocks was.
     (ap (λ (s : Source). s.place) c.hold.ensures.source) whole
     (filled_more c.streams_grow.ensures plan told told' old.source.place c.read_behind.new.source.place slice after
     old.held new.held c.in-Ok.n new.due blocks
-    (sliced plan told old.source.place slice old.block.items old.held blocks c.as_mut_slice-block.ensures.value
-    (due_none plan told old.source.place old.block.items old.held old.due blocks c.requires.idle.due was))
+    (rw c.as_mut_slice-block.ensures.value (rw c.requires.idle.due at was))
     c.in-Ok.ensures.read.filled c.read_behind.auto.block c.hold.ensures.held c.in-Ok.ensures.bound
     (λ now. c.hold.ensures.full (now ∙ sym lent))
     (λ not_now. c.hold.ensures.more (λ now. not_now (now ∙ lent)) ∙ c.requires.idle.due))
@@ -78,8 +61,7 @@ returns-in-Err-clause-filled g c = λ blocks was.
     c.read_behind.ensures.on.plan c.in-Err.ensures.on.place
     (whole_written old.block.len after old.block.items (search rules))
     (filled_stopped plan told told' old.source.place slice after old.held c.in-Err.end blocks
-    (sliced plan told old.source.place slice old.block.items old.held blocks c.as_mut_slice-block.ensures.value
-    (due_none plan told old.source.place old.block.items old.held old.due blocks c.requires.idle.due was))
+    (rw c.as_mut_slice-block.ensures.value (rw c.requires.idle.due at was))
     c.in-Err.ensures.read.filled c.read_behind.auto.block c.read_behind.ensures.front c.in-Err.ensures.on.early)
 
 -- ---- what was read
@@ -110,9 +92,8 @@ returns-in-Err-clause-reads_on g c = λ before was.
     let end = c.in-Err.end in
     let told = g.I.Inputs.told c.args.inputs.now in
     let told' = g.I.Inputs.told c.read_behind.new.inputs in
-    let P : Option FeedEnd → Type 0 = λ e. IsFated (fate (Some (Stopped end)) e) (plan_of src) before told' src.place in
     let Q : Plan → Type 0 = λ p. BreaksOffAt p before told' src.place in
-    subst P (sym c.requires.idle.running)
+    rw c.requires.idle.running
     (at_stop end (plan_of src) before told' src.place (λ failed. subst Q (sym c.read_behind.ensures.on.plan)
     (c.in-Err.ensures.read.reads_on before
     (read_so_far old before told c.requires.idle.due c.requires.idle.running was) failed)))
@@ -121,9 +102,7 @@ pub returns-then-is_transfer_over-clause-reads_on : goal.returns-then-is_transfe
 returns-then-is_transfer_over-clause-reads_on g c = λ before was.
     let old = c.args.self.now in
     let told = g.I.Inputs.told c.args.inputs.now in
-    let P : Option FeedEnd → Type 0 = λ e.
-    IsFated (fate (Some Last) e) (plan_of old.source) before told old.source.place in
-    subst P (sym c.requires.idle.running) (read_so_far old before told c.requires.idle.due c.requires.idle.running was)
+    rw c.requires.idle.running (read_so_far old before told c.requires.idle.due c.requires.idle.running was)
 
 -- ---- a fault
 

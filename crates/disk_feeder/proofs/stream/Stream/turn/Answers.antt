@@ -1,34 +1,22 @@
-use Rattle.std.proofs.Common.{◌≡◌, ℕ, ◌+◌, ◌/◌, ◌≤◌, List, None, length, refl, sym, ◌∙◌, subst, arith}
-use Rattle.psr_base.specs.Told.{Told}
-use Rattle.ring_blocks.specs.declared.Entry.{Entry}
+use Rattle.std.proofs.Common.{◌+◌, ◌/◌, ◌≤◌, length, refl, sym, ◌∙◌, subst, arith}
 use Rattle.dada_hdu.specs.declared.hdu.Hdu.{Hdu}
 use Rattle.dada_hdu.specs.Passes.{data_shape}
 use Rattle.disk_feeder.specs.declared.stream.Stream.{Stream}
 use Rattle.disk_feeder.specs.Plan.{Plan}
-use Rattle.disk_feeder.specs.Streams.{IsStream, KeepsStream}
+use Rattle.disk_feeder.specs.Streams.{KeepsStream}
 use Rattle.disk_feeder.specs.Turns.{sealed_headers, sealed_blocks}
-use Rattle.disk_feeder.specs.Feeding.{FitsRings, IsFeeding, IsRunning}
-use Rattle.disk_feeder.proofs.Turning.{runs, runs_filled, has_room, last_is}
+use Rattle.disk_feeder.specs.Feeding.{FitsRings}
+use Rattle.disk_feeder.proofs.Turning.{runs_filled, has_room, last_is}
 use Rattle.disk_feeder.proofs.stream.Stream.turn.Goals as goal
 
 fits_still : (hdu : Hdu) (old mid : Stream) → KeepsStream old mid → FitsRings hdu old → FitsRings hdu mid
 fits_still hdu old mid keeps fits =
-    let P : ℕ → Type 0 = λ n.
-    mid.source.max_bytes / n + length mid.source.starts.now + 1 ≤ (data_shape hdu).max_blocks in
     let Q : Plan → Type 0 = λ p. p.max_bytes / length old.block.items + length p.starts + 1
     ≤ (data_shape hdu).max_blocks in
     record {
       size = fits.size ∙ sym keeps.size;
-      blocks = subst P (sym keeps.size) (subst Q (sym keeps.plan) fits.blocks);
+      blocks = rw keeps.size (subst Q (sym keeps.plan) fits.blocks);
     }
-
--- the feeder once its block was filled
-filled : (old mid : Stream) (told told' : Told) (headers blocks : List Entry) → old.end ≡ None →
-    IsFeeding old told headers blocks → KeepsStream old mid → (IsStream old told blocks → IsStream mid told' blocks) →
-    IsRunning mid told' headers blocks
-filled old mid told told' headers blocks is feeding keeps fills =
-    let was = runs old told headers blocks is feeding in
-    runs_filled old mid told told' headers blocks keeps was (fills was.stream)
 
 pub seal-requires-clause-block : goal.seal-requires-clause-block
 seal-requires-clause-block g c =
@@ -41,7 +29,7 @@ seal-requires-clause-block g c =
       size_is = fits.size;
       room = has_room c.streams_are_short.ensures c.args.hdu.now mid (g.I.Inputs.told c.fill-due.new.inputs)
           (sealed_headers pass) (sealed_blocks pass) fits
-          (filled old mid (g.I.Inputs.told c.args.inputs.now) (g.I.Inputs.told c.fill-due.new.inputs)
+          (runs_filled old mid (g.I.Inputs.told c.args.inputs.now) (g.I.Inputs.told c.fill-due.new.inputs)
           (sealed_headers pass) (sealed_blocks pass) c.requires.running c.requires.stands.feeding
           c.fill-due.ensures.kept
           (c.fill-due.ensures.filled (sealed_blocks pass)));
@@ -52,7 +40,7 @@ seal-requires-clause-last g c =
     let old = c.args.self.now in
     let mid = c.fill-due.new.self in
     let pass = c.args.pass.now in
-    let run = filled old mid (g.I.Inputs.told c.args.inputs.now) (g.I.Inputs.told c.fill-due.new.inputs)
+    let run = runs_filled old mid (g.I.Inputs.told c.args.inputs.now) (g.I.Inputs.told c.fill-due.new.inputs)
     (sealed_headers pass) (sealed_blocks pass) c.requires.running c.requires.stands.feeding c.fill-due.ensures.kept
     (c.fill-due.ensures.filled (sealed_blocks pass)) in
     λ is.
@@ -66,8 +54,8 @@ returns-clause-feeding g c =
     let mid = c.fill-due.new.self in
     let pass = c.args.pass.now in
     c.seal.ensures.feeds (g.I.Inputs.told c.fill-due.new.inputs)
-    (filled old mid (g.I.Inputs.told c.args.inputs.now) (g.I.Inputs.told c.fill-due.new.inputs) (sealed_headers pass)
-    (sealed_blocks pass) c.requires.running c.requires.stands.feeding c.fill-due.ensures.kept
+    (runs_filled old mid (g.I.Inputs.told c.args.inputs.now) (g.I.Inputs.told c.fill-due.new.inputs)
+    (sealed_headers pass) (sealed_blocks pass) c.requires.running c.requires.stands.feeding c.fill-due.ensures.kept
     (c.fill-due.ensures.filled (sealed_blocks pass)))
 
 pub returns-clause-inputs : goal.returns-clause-inputs
