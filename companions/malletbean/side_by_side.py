@@ -133,8 +133,11 @@ class Search:
         self.count = self.spectra = 0
 
     def run(self, pieces: list[Piece], cores: int) -> None:
-        """Searches the pieces, at most so many at a time. If one fails, all end."""
-        self.pieces, waiting = pieces, pieces[::-1]
+        """Searches the pieces, at most so many at a time, the last ones first: the first one has the least to search.
+
+        If one fails, all end.
+        """
+        self.pieces, waiting = pieces, list(pieces)
         try:
             while waiting or self.running:
                 while waiting and len(self.running) < cores:
