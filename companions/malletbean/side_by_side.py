@@ -29,8 +29,8 @@ MOST_PIECES, MOST_BY_ITSELF = 9999, 64
 TIMES_LEAD = 2
 # the statuses where there are more lines than --max-candidates, and where a checkpoint lies beyond the data
 MANY, BEYOND = 9, 13
-# a block of psr_part has so many spectra unless --size is given, but at least and at most so many bytes: blocks that are
-# smaller than the usual ones, which are the greatest here, stay in the caches of a core
+# unless --size is given, a block of psr_part has so many spectra, but so many bytes at least and at most: blocks smaller
+# than the usual ones, which are the greatest here, stay in the caches of a core
 BLOCK_SPECTRA, LEAST_BLOCK, GREATEST_BLOCK = 64, 2**16, 2**19
 # bytes of lines that are worked on at a time
 LINES = 2**20
