@@ -29,8 +29,9 @@ MOST_PIECES, MOST_BY_ITSELF = 9999, 64
 TIMES_LEAD = 2
 # the statuses where there are more lines than --max-candidates, and where a checkpoint lies beyond the data
 MANY, BEYOND = 9, 13
-# bytes of a block of psr_part, unless --size is given: smaller ones stay in the caches of a core
-SIZE = 2**16
+# unless --size is given, a block of psr_part has so many spectra, but so many bytes at least and at most: blocks smaller
+# than the usual ones, which are the greatest here, stay in the caches of a core
+BLOCK_SPECTRA, LEAST_BLOCK, GREATEST_BLOCK = 64, 2**16, 2**19
 # bytes of lines that are worked on at a time
 LINES = 2**20
 USAGE = "psr_pieces [--pieces N] --mean V --sd V [OPTION V ..] FILE [FILE ..]"
@@ -127,14 +128,18 @@ class Search:
     def __init__(self, program: str, asked: Asked, files: Files) -> None:
         self.program, self.asked, self.files = program, asked, files
         self.most = asked.numbers["max-candidates"]
-        self.words = asked.words("pieces") + ([] if "size" in asked.options else [f"--size={SIZE}"])
+        size = max(LEAST_BLOCK, min(BLOCK_SPECTRA * files.header.spectrum_bytes, GREATEST_BLOCK))
+        self.words = asked.words("pieces") + ([] if "size" in asked.options else [f"--size={size}"])
         self.running: dict[int, Piece] = {}
         self.pieces: list[Piece] = []
         self.count = self.spectra = 0
 
     def run(self, pieces: list[Piece], cores: int) -> None:
-        """Searches the pieces, at most so many at a time. If one fails, all end."""
-        self.pieces, waiting = pieces, pieces[::-1]
+        """Searches the pieces, at most so many at a time, the last ones first: the first one has the least to search.
+
+        If one fails, all end.
+        """
+        self.pieces, waiting = pieces, list(pieces)
         try:
             while waiting or self.running:
                 while waiting and len(self.running) < cores:

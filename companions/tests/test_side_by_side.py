@@ -269,14 +269,15 @@ def test_the_programs_print_one_search(tmp_path: Path, several: bool) -> None:
 @needs_search
 @pytest.mark.parametrize("words", [
     ["FILE", "FILE"], ["/nowhere"], ["FILE", "/nowhere"], ["--max-candidates=3", "FILE"], ["--max-bytes=8191", "FILE"],
-    ["--max-bytes=8192", "FILE"], ["--widths=3", "FILE"], ["--max-bytes=0", "/nowhere"], ["/dev/null"], [__file__],
+    ["--max-bytes=8192", "FILE"], ["--widths=3", "FILE"], ["--max-bytes=0", "/nowhere"], ["EMPTY"], [__file__],
     ["--max-delay=8192", "--widths=32", "--mean=16", "--sd=1", "FILE", "/nowhere"], ["--hands=0", "FILE"],
-    ["--shards=7", "--max-delay=2", "FILE"], ["CUT", "FILE"], ["/"], ["FILE", "/dev/null"],
+    ["--shards=7", "--max-delay=2", "FILE"], ["CUT", "FILE"], ["/"], ["FILE", "EMPTY"],
 ])
 def test_the_status_is_that_of_a_search(files: dict[str, str], tmp_path: Path, words: list[str]) -> None:
     cut = tmp_path / "cut.dada"
     cut.write_bytes(Path(files["made"]).read_bytes()[:4000])
-    names = {"FILE": files["made"], "CUT": str(cut)}
+    (tmp_path / "empty").touch()
+    names = {"FILE": files["made"], "CUT": str(cut), "EMPTY": str(tmp_path / "empty")}
     usual = [] if "--sd=1" in words else ["--mean=16", "--sd=2.828"]
     given = [*usual, *(names.get(word, word) for word in words)]
     whole = subprocess.run(["psr_search", *given], capture_output=True)
