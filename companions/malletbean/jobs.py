@@ -8,7 +8,7 @@ from dataclasses import dataclass
 
 from .files import Files
 from .output import whole_file
-from .pieces import Stretch, cuts
+from .pieces import Stretch, cuts, with_block
 
 
 @dataclass(frozen=True)
@@ -27,7 +27,7 @@ def jobs_by_time(folder: str, cluster: str, program: str, options: Sequence[str]
         place = os.path.join(folder, part.name)
         pieces = [str(one) for cut in cuts(files, part) for one in cut]
         words = [os.path.join(cluster, "part"), f"{place}.text", str(part.first), *pieces, "--",
-                 program, part.stop, f"{place}.check", *options, "/dev/stdin"]
+                 program, part.stop, f"{place}.check", *with_block(options, files), "/dev/stdin"]
         found.append(Job(part.name, shlex.join(words)))
     return found
 

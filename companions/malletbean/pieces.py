@@ -9,10 +9,15 @@ import os
 
 TYPE_CHECKING = False
 if TYPE_CHECKING:
+    from collections.abc import Sequence
+
     from .files import Files
 
 # the greatest UNTIL of psr_part, and more bytes than a file has
 LAST = 2**48
+# unless --size is given, a block of psr_part has so many spectra, but so many bytes at least and at most: blocks
+# smaller than the usual ones, which are the greatest here, stay in the caches of a core
+BLOCK_SPECTRA, LEAST_BLOCK, GREATEST_BLOCK = 64, 2**16, 2**19
 
 
 class Stretch:
@@ -62,3 +67,9 @@ def cuts(files: Files, stretch: Stretch) -> list[tuple[str, int, int]]:
         if max(low, begin) < min(high, end):
             taken.append((path, head.size + max(low, begin) - begin, min(high, end) - max(low, begin)))
     return [(os.path.abspath(path), skipped, count) for path, skipped, count in taken]
+
+
+def with_block(options: Sequence[str], files: Files) -> list[str]:
+    """The options of a psr_part on a piece of the files, with the size of its blocks."""
+    size = max(LEAST_BLOCK, min(BLOCK_SPECTRA * files.header.spectrum_bytes, GREATEST_BLOCK))
+    return [*options, *([] if any(word.startswith("--size=") for word in options) else [f"--size={size}"])]

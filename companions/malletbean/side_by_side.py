@@ -14,7 +14,7 @@ from .ending import signals
 from .feeding import pour, widen, write_all
 from .files import Files
 from .headers import header_text
-from .pieces import cuts, stretches
+from .pieces import cuts, stretches, with_block
 from .refusal import MEMORY, MORE, OUTPUT, READ, TEXT, WORDS, Refusal, unread
 
 TYPE_CHECKING = False
@@ -29,9 +29,6 @@ MOST_PIECES, MOST_BY_ITSELF = 9999, 64
 TIMES_LEAD = 2
 # the statuses where there are more lines than --max-candidates, and where a checkpoint lies beyond the data
 MANY, BEYOND = 9, 13
-# unless --size is given, a block of psr_part has so many spectra, but so many bytes at least and at most: blocks smaller
-# than the usual ones, which are the greatest here, stay in the caches of a core
-BLOCK_SPECTRA, LEAST_BLOCK, GREATEST_BLOCK = 64, 2**16, 2**19
 # bytes of lines that are worked on at a time
 LINES = 2**20
 USAGE = "psr_pieces [--pieces N] --mean V --sd V [OPTION V ..] FILE [FILE ..]"
@@ -128,8 +125,7 @@ class Search:
     def __init__(self, program: str, asked: Asked, files: Files) -> None:
         self.program, self.asked, self.files = program, asked, files
         self.most = asked.numbers["max-candidates"]
-        size = max(LEAST_BLOCK, min(BLOCK_SPECTRA * files.header.spectrum_bytes, GREATEST_BLOCK))
-        self.words = asked.words("pieces") + ([] if "size" in asked.options else [f"--size={size}"])
+        self.words = with_block(asked.words("pieces"), files)
         self.running: dict[int, Piece] = {}
         self.pieces: list[Piece] = []
         self.count = self.spectra = 0
