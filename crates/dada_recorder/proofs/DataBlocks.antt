@@ -1,22 +1,22 @@
 -- Where a recorder is once a data block came.
-use Rattle.std.proofs.Common.{◌≡◌, ℕ, zero, suc, ◌+◌, ◌-◌, ◌*◌, ◌^◌, ◌<◌, ◌≤◌, Bool, true, false, List, [], ◌∷◌, ◌++◌, length, refl, sym, ap, ◌∙◌, subst, append-nil, length-append, arith, inl}
-use Rattle.std.specs.Prelude.{slice_get, if◌then◌else◌, ◌||◌}
+use Rattle.std.proofs.Common.{◌≡◌, ℕ, zero, suc, ◌+◌, ◌-◌, ◌*◌, ◌^◌, ◌<◌, ◌≤◌, Bool, true, false, List, [], ◌∷◌, ◌++◌, length, refl, sym, ap, ◌∙◌, append-nil, length-append, arith, inl}
+use Rattle.std.specs.Prelude.{if◌then◌else◌}
 use Rattle.std.specs.List.{flat_map}
 use Rattle.std.proofs.lemmas.Bool.{true≢false}
+use Rattle.std.proofs.Math.Bool.{or-false}
 use Rattle.psr_base.specs.Made.{NamedBytes}
 use Rattle.ring_blocks.specs.declared.Entry.{Entry}
-use Rattle.ring_blocks.specs.declared.Mark.{Mark}
 use Rattle.ring_blocks.specs.declared.Mark.TheVariants.{More}
 use Rattle.dada_hdu.specs.Answers.{entry}
 use Rattle.stream_model.specs.Blocks.{joined_bytes, ended_transfers, has_cut, is_end, is_cut, transfer_bytes}
 use Rattle.stream_model.specs.BlockLaws.{BytesAreJoined, EndsAreCounted, EntriesAreOfTransfers}
 use Rattle.stream_model.specs.Recorded.{Recording, recorded_file, recorded_files}
-use Rattle.dada_recorder.specs.Blocks.{RecordPlan, PlanInRange, header_in_block, under_header, files_of_blocks}
+use Rattle.dada_recorder.specs.Blocks.{record_plan, files_of_blocks}
 use Rattle.dada_recorder.specs.Recording.{AreInLimits, GoesOn, IsBrokenOff, IsTooLong}
 use Rattle.dada_recorder.specs.declared.transfer_files.TransferFiles.{TransferFiles}
 use Rattle.dada_recorder.specs.declared.transfers.Transfers.{Transfers}
-use Rattle.dada_recorder.specs.TransferFiles.{recording_in, CanRecord, first_files, data_bytes, IsPlaced, IsWithinLimit}
-use Rattle.dada_recorder.specs.Transfers.{plan_in, files_of_first, IsWithin, IsRunning, HasAppended}
+use Rattle.dada_recorder.specs.TransferFiles.{recording_in, first_files, data_bytes, IsPlaced, IsWithinLimit}
+use Rattle.dada_recorder.specs.Transfers.{plan_in, files_of_first, IsRunning, HasAppended}
 use Rattle.dada_recorder.proofs.BlockFiles.{last_transfer, first_with_more, block_added}
 use Rattle.dada_recorder.proofs.Cutting.{length-first_files}
 use Rattle.dada_recorder.proofs.Limits.{has_numbers}
@@ -65,11 +65,7 @@ pub cut_more : EndsAreCounted → (blocks : List Entry) (block : Entry) → has_
     has_cut (blocks ++ block ∷ []) ≡ is_cut block.mark
 unfolding has_cut
 cut_more law blocks block uncut =
-    law.cut_append blocks (block ∷ []) ∙ ap (λ b. b || has_cut (block ∷ [])) uncut ∙ one_cut (is_cut block.mark)
-  where
-    one_cut : (b : Bool) → (b || false) ≡ b
-    one_cut true = refl
-    one_cut false = refl
+    rw (law.cut_append blocks (block ∷ []), uncut, or-false) refl
 
 -- ---- the bytes came
 
@@ -78,9 +74,7 @@ with_data t f total = record t { files = f; total = total }
 
 pub has_begun : (t : Transfers) (headers blocks : List Entry) → t.has_header ≡ true → IsRunning t headers blocks →
     GoesOn (plan_in t) true headers blocks
-has_begun t headers blocks header run =
-    let On : Bool → Type 0 = λ b. GoesOn (plan_in t) b headers blocks in
-    subst On header run.goes_on
+has_begun t headers blocks header run = rw header at run.goes_on
 
 pub within_limit : (t : Transfers) (headers blocks : List Entry) (n : ℕ) → t.has_header ≡ true →
     IsRunning t headers blocks → t.total + n ≤ t.max_bytes →
@@ -94,12 +88,7 @@ within_limit t headers blocks n header run few =
 
 pub plan_kept : (t : Transfers) (f : TransferFiles) (total : ℕ) → recording_in f ≡ recording_in t.files →
     plan_in (with_data t f total) ≡ plan_in t
-plan_kept t f total kept =
-    ap (λ (r : Recording). record {
-      offsets = t.offsets.now;
-      file_size = r.file_size;
-      max_bytes = t.max_bytes;
-    }) kept
+plan_kept t f total kept = ap (λ (r : Recording). record_plan t.offsets.now r.file_size t.max_bytes) kept
 
 pub data_appended : BytesAreJoined → (t : Transfers) (f : TransferFiles) (headers blocks : List Entry)
     (block : Entry) (bytes : List ℕ) → block.bytes ≡ bytes → t.has_header ≡ true → IsRunning t headers blocks →
@@ -110,29 +99,23 @@ data_appended law t f headers blocks block bytes same header run few kept placed
     let total = t.total + length bytes in
     let plan = plan_kept t f total kept in
     let within = run.within header in
-    let InRange : RecordPlan → Type 0 = λ p. PlanInRange p in
-    let On : RecordPlan → Type 0 = λ p. GoesOn p true headers blocks in
-    let Finished : RecordPlan → Type 0 = λ p. t.finished ≡ length (files_of_first p headers blocks t.ended) in
-    let Under : RecordPlan → Type 0 = λ p.
-    recording_in f ≡ under_header p t.ended (header_in_block (slice_get headers t.ended)) in
-    let Can : Recording → Type 0 = λ r. CanRecord r t.max_bytes in
     let joined = joined_more law blocks block in
     let len = ap length same in
     let old = run.total in
     let both = length-append (transfer_bytes t.ended blocks) block.bytes in
     let was = within.count in
     record {
-      plan = subst InRange (sym plan) run.plan;
-      goes_on = subst On (sym plan) (has_begun t headers blocks header run);
+      plan = rw plan run.plan;
+      goes_on = rw plan (has_begun t headers blocks header run);
       has_header = header;
       ended = run.ended;
       total = omega (arith, joined, len, old);
       limit = few;
-      finished = subst Finished (sym plan) run.finished;
+      finished = rw plan run.finished;
       few = run.few;
       within = record {
-        recording = subst Under (sym plan) (kept ∙ within.recording);
-        can = subst Can (sym kept) within.can;
+        recording = kept ∙ rw (ap (λ (r : Recording). r.file_size) kept) within.recording;
+        can = rw kept within.can;
         placed = placed;
         count = omega (arith, both, was, count, len);
       };
@@ -143,14 +126,12 @@ pub data_breaks_off : BytesAreJoined → EndsAreCounted → (t : Transfers) (f :
     IsRunning t headers blocks → t.total + length bytes ≤ t.max_bytes → recording_in f ≡ recording_in t.files →
     IsBrokenOff (plan_in (record t { files = f })) headers (blocks ++ block ∷ [])
 data_breaks_off joins counts t f headers blocks block bytes same header run few kept =
-    let plan = plan_kept t f t.total kept in
-    let Broken : RecordPlan → Type 0 = λ p. IsBrokenOff p headers (blocks ++ block ∷ []) in
     let joined = joined_more joins blocks block in
     let len = ap length same in
     let old = run.total in
     let ended = ended_more counts blocks block in
     let begun = (has_begun t headers blocks header run).begun in
-    subst Broken (sym plan) (record {
+    rw (plan_kept t f t.total kept) (record {
       limits = inl (record {
         accepted = run.goes_on.in_limits.accepted;
         limit = omega (arith, joined, len, old, few);
@@ -178,11 +159,12 @@ pub files_after : EntriesAreOfTransfers → (t : Transfers) (f : TransferFiles) 
 files_after law t f total headers blocks block bytes same header run kept =
     let begun = (has_begun t headers blocks header run).begun in
     let ended = run.ended in
-    ap (λ (p : RecordPlan). files_of_blocks p headers (blocks ++ block ∷ [])) (plan_kept t f total kept)
-    ∙ block_added law (plan_in t) headers blocks block t.ended (recording_in t.files) (sym ended)
-    (omega (arith, begun, ended)) (run.within header).recording
-    ∙ ap (λ (bs : List ℕ). files_of_first (plan_in t) headers blocks t.ended
-    ++ recorded_files (recording_in t.files) (transfer_bytes t.ended blocks ++ bs)) same
+    rw (
+      plan_kept t f total kept,
+      block_added law (plan_in t) headers blocks block t.ended (recording_in t.files)
+          (sym ended) (omega (arith, begun, ended)) (run.within header).recording,
+      same,
+    ) refl
 
 pub too_long : BytesAreJoined → (t : Transfers) (headers blocks : List Entry) (block : Entry) →
     t.has_header ≡ true → IsRunning t headers blocks → t.max_bytes - t.total < length block.bytes →
@@ -246,11 +228,9 @@ more_runs law counts t headers blocks bytes has =
     ended_more counts blocks block ∙ omega arith in
     let begun = has.goes_on.begun in
     let more = has.goes_on.more in
-    let On : Bool → Type 0 = λ b. GoesOn (plan_in t) b headers (blocks ++ block ∷ []) in
-    let Bytes : List ℕ → Type 0 = λ bs. IsWithin t headers bs in
     record {
       plan = has.plan;
-      goes_on = subst On (sym has.has_header) (record {
+      goes_on = rw has.has_header (record {
         in_limits = in_limits_with t headers blocks block has;
         more = omega (arith, ended, more);
         uncut = cut_more counts blocks block has.goes_on.uncut;
@@ -259,10 +239,9 @@ more_runs law counts t headers blocks bytes has =
       });
       ended = has.ended ∙ sym ended;
       total = has.total;
-      finished = has.finished ∙ ap length (sym (first_with_more law (plan_in t) headers blocks block t.ended
-          (sym has.ended)));
+      finished = rw (first_with_more law (plan_in t) headers blocks block t.ended (sym has.ended)) has.finished;
       few = has.few;
-      within = λ is. subst Bytes (sym (law.next t.ended blocks block (sym has.ended))) has.within;
+      within = λ is. rw (law.next t.ended blocks block (sym has.ended)) has.within;
       between = λ is. absurd (true≢false (sym has.has_header ∙ is));
     }
 
@@ -277,35 +256,19 @@ pub split_last : EntriesAreOfTransfers → (t : Transfers) (headers blocks : Lis
     files_of_blocks (plan_in t) headers (blocks ++ block ∷ [])
     ≡ (files_of_first (plan_in t) headers blocks t.ended ++ first_files r xs n) ++ recorded_file r xs n ∷ []
 split_last law t headers blocks block has =
-    let r = recording_in t.files in
-    let xs = transfer_bytes t.ended blocks ++ block.bytes in
     let begun = has.goes_on.begun in
     let ended = has.ended in
+    let r = recording_in t.files in
+    let xs = transfer_bytes t.ended blocks ++ block.bytes in
     block_added law (plan_in t) headers blocks block t.ended r (sym ended) (omega (arith, begun, ended))
     has.within.recording
-    ∙ ap (λ (fs : List NamedBytes). files_of_first (plan_in t) headers blocks t.ended ++ fs)
-    (placed_files r t.files.place xs has.within.can.some has.within.placed has.within.count)
-    ∙ behind (files_of_first (plan_in t) headers blocks t.ended) r xs t.files.place.number
+    ∙ rw (placed_files r t.files.place xs has.within.can.some has.within.placed has.within.count)
+    (behind (files_of_first (plan_in t) headers blocks t.ended) r xs t.files.place.number)
 
 pub count_all : EntriesAreOfTransfers → (t : Transfers) (headers blocks : List Entry) (block : Entry) →
     HasAppended t headers blocks block →
     t.finished + (t.files.place.number + 1) ≡ length (files_of_blocks (plan_in t) headers (blocks ++ block ∷ []))
 count_all law t headers blocks block has =
-    let r = recording_in t.files in
-    let xs = transfer_bytes t.ended blocks ++ block.bytes in
-    let n = t.files.place.number in
-    let first = files_of_first (plan_in t) headers blocks t.ended in
-    let all = ap length (split_last law t headers blocks block has) in
-    let outer = length-append (first ++ first_files r xs n) (recorded_file r xs n ∷ []) in
-    let inner = length-append first (first_files r xs n) in
-    let count = length-first_files r xs n in
-    let finished = has.finished in
-    omega (arith, all, outer, inner, count, finished)
-
-pub at_more : EntriesAreOfTransfers → EndsAreCounted → (t : Transfers) (headers blocks : List Entry) (mark : Mark)
-    (bytes : List ℕ) → mark ≡ More → HasAppended t headers blocks (entry mark bytes) →
-    IsRunning t headers (blocks ++ entry mark bytes ∷ [])
-at_more law counts t headers blocks mark bytes is has =
-    let Runs : Mark → Type 0 = λ m. HasAppended t headers blocks (entry m bytes) →
-    IsRunning t headers (blocks ++ entry m bytes ∷ []) in
-    subst Runs (sym is) (more_runs law counts t headers blocks bytes) has
+    let all = simp (length-append, length-first_files) at
+    (ap (length {A = NamedBytes}) (split_last law t headers blocks block has)) in
+    omega (arith, all, has.finished)

@@ -1,6 +1,5 @@
 -- Fronts of files, and what is enough for them.
-use Rattle.std.proofs.Common.{◌≡◌, ℕ, ◌≤◌, List, [], ◌∷◌, ◌++◌, length, refl, sym, ap, ◌∙◌, subst, append_assoc, length-append, arith, inl, inr}
-use Rattle.std.specs.Prelude.{Contains}
+use Rattle.std.proofs.Common.{◌≡◌, ℕ, ◌≤◌, List, [], ◌∷◌, ◌++◌, length, refl, ap, ◌∙◌, append_assoc, length-append, arith, inl, inr}
 use Rattle.psr_base.specs.Made.{NamedBytes}
 use Rattle.dada_recorder.specs.Making.{Outset, total_bytes, names, AreNew, HasEnoughFor, IsFrontOf, IsFileFront}
 
@@ -37,12 +36,9 @@ front_follows (x ∷ a) (y ∷ b) [] first second = absurd second
 front_follows (x ∷ a) (y ∷ b) (z ∷ c) (inl first) (inl second) =
     inl (first.0 ∙ second.0, front_follows a b c first.1 second.1)
 front_follows (x ∷ a) (y ∷ b) (z ∷ c) (inl first) (inr second) =
-    let Front : NamedBytes → Type 0 = λ file. IsFrontOf file z in
-    let Before : List NamedBytes → Type 0 = λ files. IsFileFront a files in
-    inr (no_files a (subst Before second.0 first.1), subst Front (sym first.0) second.1)
+    inr (no_files a (rw second.0 at first.1), rw first.0 second.1)
 front_follows (x ∷ a) (y ∷ b) (z ∷ c) (inr first) (inl second) =
-    let Front : NamedBytes → Type 0 = λ file. IsFrontOf x file in
-    inr (first.0, subst Front second.0 first.1)
+    inr (first.0, rw second.0 at first.1)
 front_follows (x ∷ a) (y ∷ b) (z ∷ c) (inr first) (inr second) =
     inr (first.0, front_of_front x y z first.1 second.1)
 
@@ -80,12 +76,9 @@ new_front : (files all : List NamedBytes) (there : List (List ℕ)) → IsFileFr
 new_front [] all there is new = tt
 new_front (file ∷ files) [] there is new = absurd is
 new_front (file ∷ files) (whole ∷ more) there (inl is) new =
-    let New : NamedBytes → Type 0 = λ f. (¬ Contains there f.name) × AreNew (there ++ f.name ∷ []) (names files) in
-    subst New (sym is.0) (new.0, new_front files more (there ++ whole.name ∷ []) is.1 new.1)
+    rw is.0 (new.0, new_front files more (there ++ whole.name ∷ []) is.1 new.1)
 new_front (file ∷ files) (whole ∷ more) there (inr is) new =
-    let Here : List ℕ → Type 0 = λ name. ¬ Contains there name in
-    let Rest : List NamedBytes → Type 0 = λ fs. AreNew (there ++ file.name ∷ []) (names fs) in
-    (subst Here (sym is.1.name) new.0, subst Rest (sym is.0) tt)
+    (rw is.1.name new.0, rw is.0 tt)
 
 pub enough_front : (outset : Outset) (files all : List NamedBytes) → IsFileFront files all →
     HasEnoughFor outset all → HasEnoughFor outset files

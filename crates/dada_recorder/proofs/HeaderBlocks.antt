@@ -1,21 +1,21 @@
 -- Where a recorder is once a header block came.
-use Rattle.std.proofs.Common.{◌≡◌, ℕ, ◌+◌, ◌<◌, ◌≤◌, Bool, true, false, List, [], ◌∷◌, ◌++◌, Option, Some, None, Ok, length, sym, ap, ◌∙◌, subst, length-append, arith, inl, inr}
-use Rattle.std.specs.Prelude.{slice_get, slice_index_or, if◌then◌else◌, ◌⊎◌}
+use Rattle.std.proofs.Common.{◌≡◌, ℕ, ◌<◌, ◌≤◌, Bool, true, false, List, [], ◌∷◌, ◌++◌, Some, Ok, length, refl, sym, ap, ◌∙◌, length-append, arith, inl, inr}
+use Rattle.std.specs.Prelude.{slice_get, slice_index_or, ◌⊎◌}
 use Rattle.std.proofs.lemmas.Bool.{true≢false}
 use Rattle.std.proofs.lemmas.Option.{slice_get_within}
 use Rattle.std.proofs.Math.Nat.{eq-or-lt_of_le}
 use Rattle.psr_base.specs.Made.{FilesSeen}
 use Rattle.dada_model.specs.Fields.{header_of}
 use Rattle.ring_blocks.specs.declared.Entry.{Entry}
-use Rattle.stream_model.specs.Blocks.{ended_transfers, transfer_bytes}
-use Rattle.stream_model.specs.Recorded.{Recording, record_refusal, recorded_files}
+use Rattle.stream_model.specs.Blocks.{ended_transfers}
+use Rattle.stream_model.specs.Recorded.{Recording, recorded_files}
 use Rattle.dada_recorder.specs.Making.{Outset, HasMade}
-use Rattle.dada_recorder.specs.Blocks.{RecordPlan, PlanInRange, header_or_none, header_in_block, under_header, files_of_blocks, AcceptsBlock, AcceptsAll}
-use Rattle.dada_recorder.specs.Recording.{AreInLimits, GoesOn, IsBrokenOff}
+use Rattle.dada_recorder.specs.Blocks.{RecordPlan, record_plan, header_in_block, under_header, files_of_blocks, AcceptsBlock, AcceptsAll}
+use Rattle.dada_recorder.specs.Recording.{AreInLimits, IsBrokenOff}
 use Rattle.dada_recorder.specs.declared.transfer_files.TransferFiles.{TransferFiles}
 use Rattle.dada_recorder.specs.declared.transfers.Transfers.{Transfers}
 use Rattle.dada_recorder.specs.TransferFiles.{recording_in, CanRecord, data_bytes, IsPlaced}
-use Rattle.dada_recorder.specs.Transfers.{plan_in, files_of_first, IsRunning}
+use Rattle.dada_recorder.specs.Transfers.{plan_in, IsRunning}
 use Rattle.dada_recorder.proofs.BlockFiles.{get_in_front, get_at_seam, first_under_more, header_added}
 
 -- what is known of the transfer's files once its header was read, and it was accepted
@@ -28,9 +28,6 @@ pub record HasBegun (t : Transfers) (f : TransferFiles) (bytes : List ℕ) : Typ
 -- the recorder with these files
 abbrev pub with_files : Transfers → Bool → TransferFiles → Transfers
 with_files t has_header f = record t { has_header = has_header; files = f }
-
-some_is : {A : Type 0} (x y : A) → Some x ≡ Some y → x ≡ y
-some_is x y is = grind (arith, is)
 
 accepts_more : (plan : RecordPlan) (headers : List Entry) (block : Entry) → AcceptsAll plan headers →
     AcceptsBlock plan (length headers) block.bytes → AcceptsAll plan (headers ++ block ∷ [])
@@ -46,53 +43,41 @@ accepts_more plan headers block all last k e there =
     by_place : ((k ≡ length headers) ⊎ (k < length headers)) → AcceptsBlock plan k e.bytes
     by_place (inr below) = all k e (sym (get_in_front headers (block ∷ []) k below) ∙ there)
     by_place (inl at) =
-        let At : ℕ → Type 0 = λ j. AcceptsBlock plan j e.bytes in
-        let Bytes : List ℕ → Type 0 = λ bytes. AcceptsBlock plan (length headers) bytes in
-        let here : Some block ≡ Some e = sym (get_at_seam headers block)
-        ∙ ap (slice_get (headers ++ block ∷ [])) (sym at) ∙ there in
-        subst At (sym at) (subst Bytes (ap (λ (x : Entry). x.bytes) (some_is block e here)) last)
+        let here : Some block ≡ Some e = sym (get_at_seam headers block []) ∙ rw at at there in
+        let same : block ≡ e = cc in
+        rw (at, ← same) last
 
 -- the block has the header of the transfer that is next
 pub recording_is : (t : Transfers) (f : TransferFiles) (headers : List Entry) (block : Entry) →
     t.ended ≡ length headers → HasBegun t f block.bytes →
     recording_in f ≡ under_header (plan_in t) (length headers) (header_in_block (Some block))
 recording_is t f headers block ended begun =
-    ap (λ (offset : ℕ). record { header = f.header; offset = offset; file_size = f.file_size })
-    (begun.offset ∙ ap (λ (k : ℕ). slice_index_or t.offsets.now k 0) ended)
-    ∙ ap (λ (size : ℕ). record {
-      header = f.header;
-      offset = slice_index_or t.offsets.now (length headers) 0;
-      file_size = size;
-    }) begun.size
-    ∙ sym (ap (λ r. under_header (plan_in t) (length headers) (header_or_none r)) begun.read)
+    rw (begun.offset, begun.size, ended, begun.read) refl
 
 next_is : (t : Transfers) (headers blocks : List Entry) → t.has_header ≡ false → IsRunning t headers blocks →
     length headers ≡ ended_transfers blocks
 next_is t headers blocks none run =
-    run.goes_on.begun ∙ ap (λ (b : Bool). ended_transfers blocks + (if b then 1 else 0)) none ∙ omega arith
+    rw none at run.goes_on.begun ∙ omega arith
 
 accepted_with : (t : Transfers) (f : TransferFiles) (headers blocks : List Entry) (block : Entry) →
     t.has_header ≡ false → IsRunning t headers blocks → HasBegun t f block.bytes →
     AreInLimits (plan_in t) (headers ++ block ∷ []) blocks
 accepted_with t f headers blocks block none run begun =
     let ended = run.ended ∙ sym (next_is t headers blocks none run) in
-    let Accepted : Recording → Type 0 = λ r. record_refusal r t.max_bytes ≡ None in
     let under : recording_in f ≡ under_header (plan_in t) (length headers) f.header =
-    recording_is t f headers block ended begun
-    ∙ ap (λ r. under_header (plan_in t) (length headers) (header_or_none r)) begun.read in
+    rw begun.read at (recording_is t f headers block ended begun) in
     record {
       accepted = accepts_more (plan_in t) headers block run.goes_on.in_limits.accepted (record {
         header = f.header;
         read = begun.read;
-        accepted = subst Accepted under begun.accepted.none_refused;
+        accepted = rw under at begun.accepted.none_refused;
       });
       limit = run.goes_on.in_limits.limit;
     }
 
 same_plan : (t : Transfers) (f : TransferFiles) (b : Bool) → f.file_size ≡ t.files.file_size →
     plan_in (with_files t b f) ≡ plan_in t
-same_plan t f b size =
-    ap (λ (z : ℕ). record { offsets = t.offsets.now; file_size = z; max_bytes = t.max_bytes }) size
+same_plan t f b size = ap (λ (z : ℕ). record_plan t.offsets.now z t.max_bytes) size
 
 -- ---- it goes on
 
@@ -106,16 +91,9 @@ header_runs t f f' headers blocks block none run begun kept placed count =
     let count_of = next_is t headers blocks none run in
     let ended = run.ended ∙ sym count_of in
     let both = length-append headers (block ∷ []) in
-    let InRange : RecordPlan → Type 0 = λ p. PlanInRange p in
-    let On : RecordPlan → Type 0 = λ p. GoesOn p true (headers ++ block ∷ []) blocks in
-    let Finished : RecordPlan → Type 0 = λ p.
-    t.finished ≡ length (files_of_first p (headers ++ block ∷ []) blocks t.ended) in
-    let Under : RecordPlan → Type 0 = λ p.
-    recording_in f' ≡ under_header p t.ended (header_in_block (slice_get (headers ++ block ∷ []) t.ended)) in
-    let Can : Recording → Type 0 = λ r. CanRecord r t.max_bytes in
     record {
-      plan = subst InRange (sym plan) run.plan;
-      goes_on = subst On (sym plan) (record {
+      plan = rw plan run.plan;
+      goes_on = rw plan (record {
         in_limits = accepted_with t f headers blocks block none run begun;
         more = run.goes_on.more;
         uncut = run.goes_on.uncut;
@@ -124,18 +102,13 @@ header_runs t f f' headers blocks block none run begun kept placed count =
       });
       ended = run.ended;
       total = run.total;
-      finished = subst Finished (sym plan) (run.finished ∙ ap length (sym (first_under_more (plan_in t) headers blocks
-          block t.ended (omega (arith, ended)))));
+      finished = rw (plan, first_under_more (plan_in t) headers blocks block t.ended (omega (arith, ended))) run.finished;
       few = run.few;
       within = λ is. record {
-        recording = subst Under (sym plan) (kept ∙ recording_is t f headers block ended begun
-            ∙ ap (λ (h : Option Entry). under_header (plan_in t) (length headers) (header_in_block h))
-            (sym (get_at_seam headers block))
-            ∙ ap (λ (k : ℕ). under_header (plan_in t) k (header_in_block (slice_get (headers ++ block ∷ []) k)))
-            (sym ended));
-        can = subst Can (sym kept) begun.accepted;
+        recording = kept ∙ rw (size, ended, get_at_seam headers block []) (recording_is t f headers block ended begun);
+        can = rw kept begun.accepted;
         placed = placed;
-        count = ap length (ap (λ (k : ℕ). transfer_bytes k blocks) run.ended ∙ run.goes_on.between none) ∙ sym count;
+        count = rw (run.ended, run.goes_on.between none) (sym count);
       };
       between = λ is. absurd (true≢false is);
     }
@@ -150,8 +123,7 @@ header_breaks_off t f f' headers blocks block none run begun kept =
     let size : f'.file_size ≡ t.files.file_size = ap (λ (r : Recording). r.file_size) kept ∙ begun.size in
     let count_of = next_is t headers blocks none run in
     let both = length-append headers (block ∷ []) in
-    let Broken : RecordPlan → Type 0 = λ p. IsBrokenOff p (headers ++ block ∷ []) blocks in
-    subst Broken (sym (same_plan t f' t.has_header size)) (record {
+    rw (same_plan t f' t.has_header size) (record {
       limits = inl (accepted_with t f headers blocks block none run begun);
       begun = omega (arith, both, count_of);
     })
@@ -167,16 +139,11 @@ header_files t f f' b headers blocks block none run begun kept =
     let size : f'.file_size ≡ t.files.file_size = ap (λ (r : Recording). r.file_size) kept ∙ begun.size in
     let count_of = next_is t headers blocks none run in
     let ended = run.ended ∙ sym count_of in
-    sym (header_added (plan_in t) headers blocks block (recording_in f)
-    (ap (λ (k : ℕ). transfer_bytes k blocks) count_of ∙ run.goes_on.between none)
-    (recording_is t f headers block ended begun))
-    ∙ ap (λ (p : RecordPlan). files_of_blocks p (headers ++ block ∷ []) blocks) (sym (same_plan t f' b size))
+    rw (same_plan t f' b size) (sym (header_added (plan_in t) headers blocks block (recording_in f)
+    (rw count_of (run.goes_on.between none)) (recording_is t f headers block ended begun)))
 
 pub closed_files : (t : Transfers) (headers blocks : List Entry) (outset : Outset) (seen : FilesSeen) →
     t.has_header ≡ false → IsRunning t headers blocks →
     HasMade outset t.files.place.is_open (files_of_blocks (plan_in t) headers blocks) seen →
     HasMade outset false (files_of_blocks (plan_in t) headers blocks) seen
-closed_files t headers blocks outset seen none run has =
-    let Made : Bool → Type 0 = λ open_still. HasMade outset open_still
-    (files_of_blocks (plan_in t) headers blocks) seen in
-    subst Made (run.between none) has
+closed_files t headers blocks outset seen none run has = rw (run.between none) at has

@@ -7,16 +7,13 @@ use Rattle.stream_model.specs.Recorded.{Recording, RecordRefusal, record_refusal
 use Rattle.stream_model.specs.RecordedLaws.{HasNumbers}
 use Rattle.dada_recorder.specs.TransferFiles.{CanRecord}
 
-some_is_not_none : {A : Type 0} (x : A) → Some x ≡ None → ⊥
-some_is_not_none x is = grind (arith, is)
-
 pub first_none : (a b : Option RecordRefusal) → or_else a b ≡ None → a ≡ None
 first_none None b is = refl
 first_none (Some refusal) b is = is
 
 pub later_none : (a b : Option RecordRefusal) → or_else a b ≡ None → b ≡ None
 later_none None b is = is
-later_none (Some refusal) b is = absurd (some_is_not_none refusal is)
+later_none (Some refusal) b is = absurd cc
 
 pub time_accepted : (r : Recording) (max_bytes : ℕ) → record_refusal r max_bytes ≡ None →
     time_refusal (start_time r.header) ≡ None
@@ -25,7 +22,7 @@ time_accepted r max_bytes none = first_none (time_refusal (start_time r.header))
 
 few_files : (file_size max_bytes : ℕ) (b : Bool) → nat_lt (file_size * 1000000) max_bytes ≡ b →
     (if b then Some TooManyFiles else None) ≡ None → max_bytes ≤ file_size * 1000000
-few_files file_size max_bytes true is none = absurd (some_is_not_none TooManyFiles none)
+few_files file_size max_bytes true is none = absurd cc
 few_files file_size max_bytes false is none = grind (arith, nat_tests, is)
 
 pub number_accepted : (r : Recording) (max_bytes : ℕ) → record_refusal r max_bytes ≡ None →

@@ -1,11 +1,11 @@
 -- What the calls on files do to what was made.
-use Rattle.std.proofs.Common.{◌≡◌, ℕ, ◌+◌, ◌-◌, ◌<◌, ◌≤◌, true, false, List, [], ◌∷◌, ◌++◌, Option, Some, None, length, take, map, refl, sym, ap, ◌∙◌, subst, append_assoc, append-nil, length-append, arith}
-use Rattle.std.specs.Prelude.{Contains, slice_get, IsSome}
+use Rattle.std.proofs.Common.{◌≡◌, ℕ, ◌+◌, ◌-◌, ◌<◌, ◌≤◌, true, false, List, [], ◌∷◌, ◌++◌, Option, Some, None, length, refl, sym, ap, ◌∙◌, append_assoc, append-nil, length-append, arith}
+use Rattle.std.specs.Prelude.{Contains, IsSome}
 use Rattle.std.specs.Option.{option_map}
 use Rattle.std.proofs.Math.Seq.{take-append_seam, get_or-append_seam}
 use Rattle.std.proofs.lemmas.List.{map-append}
 use Rattle.std.proofs.lemmas.Option.{slice_get-get_or, same_Some}
-use Rattle.psr_base.specs.Made.{NamedBytes, Made, FilesLeft, FilesSeen, HasName, with_new_file, longer_by, with_all_finished, less_a_file, less_bytes, Created, AppendedAll, AppendedFront, Finished, MakingFails, CanCreate}
+use Rattle.psr_base.specs.Made.{NamedBytes, Made, FilesLeft, FilesSeen, with_new_file, longer_by, with_all_finished, less_a_file, less_bytes, Created, AppendedAll, AppendedFront, Finished, MakingFails, CanCreate}
 use Rattle.dada_recorder.specs.Making.{Outset, made_with, total_bytes, left_after, HasMade, names, AreNew, HasEnoughFor, IsFrontOf, IsFileFront, BreaksOff}
 use Rattle.dada_recorder.specs.TransferFiles.{longer_file}
 use Rattle.dada_recorder.proofs.Fronts.{front_follows, front_longer, front_before, bytes_front, enough_front}
@@ -22,13 +22,8 @@ last_open files file =
     let all = files ++ file ∷ [] in
     let count = length-append files (file ∷ []) in
     let last : length all - 1 ≡ length files = omega (arith, count) in
-    let From : ℕ → Made = λ n. record { finished = take n all; unfinished = slice_get all n } in
-    ap From last
-    ∙ ap (λ (fs : List NamedBytes). record { finished = fs; unfinished = slice_get all (length files) })
-    (take-append_seam files (file ∷ []))
-    ∙ ap (λ (f : Option NamedBytes). record { finished = files; unfinished = f })
-    (slice_get-get_or all (length files) file (omega (arith, count))
-    ∙ ap (λ (f : NamedBytes). Some f) (get_or-append_seam files file [] file))
+    let there = slice_get-get_or all (length files) file (omega (arith, count)) in
+    rw (last, take-append_seam files (file ∷ []), there, get_or-append_seam files file [] file) refl
 
 pub total-append : (files more : List NamedBytes) → total_bytes (files ++ more) ≡ total_bytes files + total_bytes more
 unfolding total_bytes
@@ -53,12 +48,7 @@ left_one_more files name (Some left) =
     omega (arith, count) in
     let same : left.bytes - total_bytes files
     ≡ left.bytes - total_bytes (files ++ record { name = name; bytes = [] } ∷ []) = omega (arith, bytes) in
-    ap (λ (n : ℕ). Some (record { files = n; bytes = left.bytes - total_bytes files })) few
-    ∙ ap (λ (n : ℕ). Some (record {
-      files =
-          left.files - length (files ++ record { name = name; bytes = [] } ∷ []);
-      bytes = n;
-    })) same
+    rw (few, same) refl
 
 left_longer : (files : List NamedBytes) (file : NamedBytes) (bytes : List ℕ) (left : Option FilesLeft) →
     option_map (less_bytes (length bytes)) (option_map (left_after (files ++ file ∷ [])) left)
@@ -74,15 +64,7 @@ left_longer files file bytes (Some left) =
     omega (arith, one, other) in
     let total : left.bytes - total_bytes (files ++ file ∷ []) - length bytes
     ≡ left.bytes - total_bytes (files ++ longer_file bytes file ∷ []) = omega (arith, before, after, both) in
-    ap (λ (n : ℕ). Some (record {
-      files = n;
-      bytes =
-          left.bytes - total_bytes (files ++ file ∷ []) - length bytes;
-    })) count
-    ∙ ap (λ (n : ℕ). Some (record {
-      files = left.files - length (files ++ longer_file bytes file ∷ []);
-      bytes = n;
-    })) total
+    rw (count, total) refl
 
 -- ---- calls that went through
 
@@ -90,8 +72,7 @@ left_longer files file bytes (Some left) =
 made_open : (outset : Outset) (files : List NamedBytes) (file : NamedBytes) →
     made_with true (outset.files ++ (files ++ file ∷ [])) ≡ opened (outset.files ++ files) file
 unfolding opened
-made_open outset files file = ap (made_with true) (sym (append_assoc outset.files files (file ∷ [])))
-    ∙ last_open (outset.files ++ files) file
+made_open outset files file = rw (← append_assoc) (last_open (outset.files ++ files) file)
 
 pub created_made : (outset : Outset) (files : List NamedBytes) (name : List ℕ) (old new : FilesSeen) →
     HasMade outset false files old → Created name old new →
@@ -129,12 +110,9 @@ finished_made outset files file old new has does = record {
 
 new_name : (there : List (List ℕ)) (names : List (List ℕ)) (name : List ℕ) → AreNew there (names ++ name ∷ []) →
     ¬ Contains (there ++ names) name
-new_name there [] name new =
-    let Free : List (List ℕ) → Type 0 = λ all. ¬ Contains all name in
-    subst Free (sym (append-nil there)) new.0
+new_name there [] name new = rw (append-nil there) new.0
 new_name there (first ∷ names) name new =
-    let Free : List (List ℕ) → Type 0 = λ all. ¬ Contains all name in
-    subst Free (append_assoc there (first ∷ []) names) (new_name (there ++ first ∷ []) names name new.1)
+    rw (append_assoc there (first ∷ []) names) at (new_name (there ++ first ∷ []) names name new.1)
 
 -- files that are finished, and what is enough for one more
 can_create : (outset : Outset) (files : List NamedBytes) (file : NamedBytes) (seen : FilesSeen) →
@@ -142,35 +120,16 @@ can_create : (outset : Outset) (files : List NamedBytes) (file : NamedBytes) (se
     CanCreate file.name seen
 can_create outset files file seen has enough short =
     let there = outset.files ++ files in
-    let Free : List (List ℕ) → Type 0 = λ all. ¬ Contains all file.name in
-    let New : List (List ℕ) → Type 0 = λ all. AreNew (names outset.files) all in
-    let free = new_name (names outset.files) (names files) file.name
-    (subst New (map-append (λ (f : NamedBytes). f.name) files (file ∷ [])) enough.new) in
-    let all = sym (map-append (λ (f : NamedBytes). f.name) outset.files files)
-    ∙ ap (map (λ (f : NamedBytes). f.name)) (sym (append-nil there)) in
+    let free = new_name (names outset.files) (names files) file.name (rw map-append at enough.new) in
     let one = length-append files (file ∷ []) in
-    let New_in : Made → Type 0 = λ made. ¬ HasName made file.name in
     record {
       is_new = λ made is.
-          subst New_in (same_Some (made_with false there) made (sym has.made ∙ is)) (subst Free all free);
+          rw (← same_Some (made_with false there) made (sym has.made ∙ is), append-nil, map-append) free;
       left = left_after files enough.left;
       left_is_told = has.left ∙ ap (option_map (left_after files)) enough.is_told;
       file = omega (arith, one, enough.count);
       short = short;
     }
-
-pub create_breaks : (outset : Outset) (files : List NamedBytes) (file : NamedBytes) (all : List NamedBytes)
-    (old new : FilesSeen) → HasMade outset false files old → MakingFails old new → length file.name ≤ 64 →
-    (CanCreate file.name old → ⊥) → IsFileFront (files ++ file ∷ []) all → BreaksOff outset all new
-create_breaks outset files file all old new has does short fails front = record {
-  made = made_with false (outset.files ++ files);
-  is_told = does.made ∙ has.made;
-  files = files;
-  files_are = append-nil (outset.files ++ files);
-  front = front_before files (file ∷ []) all front;
-  short = λ enough. fails (can_create outset files file old has (enough_front outset (files ++ file ∷ []) all front
-      enough) short);
-}
 
 pub append_breaks : (outset : Outset) (files : List NamedBytes) (file : NamedBytes) (bytes : List ℕ)
     (all : List NamedBytes) (old new : FilesSeen) → HasMade outset true (files ++ file ∷ []) old →
@@ -214,9 +173,7 @@ finish_breaks outset files file all old new has does fails front = record {
   files_are = append_assoc outset.files files (file ∷ []);
   front = front;
   short = λ enough.
-      let Told : Option FilesLeft → Type 0 = λ left. IsSome left in
-      let told = has.left ∙ ap (option_map (left_after (files ++ file ∷ []))) enough.is_told in
-      fails (subst Told (sym told) refl);
+      fails (rw (has.left, enough.is_told) refl);
 }
 
 -- ---- a file with its header
@@ -225,12 +182,8 @@ pub started_made : (outset : Outset) (files : List NamedBytes) (file : NamedByte
     (old middle new : FilesSeen) → name ≡ file.name → bytes ≡ file.bytes → HasMade outset false files old →
     Created name old middle → AppendedAll bytes middle new → HasMade outset true (files ++ file ∷ []) new
 started_made outset files file name bytes old middle new named has_bytes has created appended =
-    let Made : List ℕ → List ℕ → Type 0 = λ n bs.
-    HasMade outset true (files ++ record { name = n; bytes = bs } ∷ []) new in
-    let Named : List ℕ → Type 0 = λ n. Made n bytes in
-    let Bytes : List ℕ → Type 0 = λ bs. Made file.name bs in
-    subst Bytes has_bytes (subst Named named (appended_made outset files (record { name = name; bytes = [] }) bytes
-    middle new (created_made outset files name old middle has created) appended))
+    rw (named, has_bytes) at (appended_made outset files (record { name = name; bytes = [] }) bytes middle new
+    (created_made outset files name old middle has created) appended)
 
 -- it was created, and a front of its header appended
 pub header_breaks : (outset : Outset) (files : List NamedBytes) (file : NamedBytes) (name bytes : List ℕ)
@@ -238,20 +191,20 @@ pub header_breaks : (outset : Outset) (files : List NamedBytes) (file : NamedByt
     HasMade outset false files old → Created name old middle → AppendedFront bytes middle new →
     IsFileFront (files ++ file ∷ []) all → BreaksOff outset all new
 header_breaks outset files file name bytes all old middle new named has_bytes has created appended front =
-    let Front : List ℕ → List ℕ → Type 0 = λ n bs.
-    IsFileFront (files ++ record { name = n; bytes = bs } ∷ []) all in
-    let Named : List ℕ → Type 0 = λ n. Front n bytes in
-    let Bytes : List ℕ → Type 0 = λ bs. Front file.name bs in
     append_breaks outset files (record { name = name; bytes = [] }) bytes all middle new
-    (created_made outset files name old middle has created) appended
-    (subst Named (sym named) (subst Bytes (sym has_bytes) front))
+    (created_made outset files name old middle has created) appended (rw (named, has_bytes) front)
 
 -- it was not created
 pub creation_breaks : (outset : Outset) (files : List NamedBytes) (file : NamedBytes) (name : List ℕ)
     (all : List NamedBytes) (old new : FilesSeen) → name ≡ file.name → length name ≤ 64 →
     HasMade outset false files old → MakingFails old new → (CanCreate name old → ⊥) →
     IsFileFront (files ++ file ∷ []) all → BreaksOff outset all new
-creation_breaks outset files file name all old new named short has fails never front =
-    let Short : List ℕ → Type 0 = λ n. length n ≤ 64 in
-    let Never : List ℕ → Type 0 = λ n. CanCreate n old → ⊥ in
-    create_breaks outset files file all old new has fails (subst Short named short) (subst Never named never) front
+creation_breaks outset files file name all old new named short has fails never front = record {
+  made = made_with false (outset.files ++ files);
+  is_told = fails.made ∙ has.made;
+  files = files;
+  files_are = append-nil (outset.files ++ files);
+  front = front_before files (file ∷ []) all front;
+  short = λ enough. never (rw named (can_create outset files file old has (enough_front outset (files ++ file ∷ []) all
+      front enough) (rw named at short)));
+}

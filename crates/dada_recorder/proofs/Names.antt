@@ -1,13 +1,12 @@
 -- The name of a file, as its parts are put together.
-use Rattle.std.proofs.Common.{◌≡◌, ℕ, List, [], ◌∷◌, ◌++◌, sym, ap, ◌∙◌, append_assoc, Option, Some}
+use Rattle.std.proofs.Common.{◌≡◌, ℕ, List, [], ◌∷◌, ◌++◌, refl, sym, ap, ◌∙◌, append_assoc, Option, Some}
 use Rattle.std.specs.Prelude.{codes, unwrap_or}
 use Rattle.psr_base.specs.Fixed.{padded}
 use Rattle.stream_model.specs.Recorded.{Recording, file_offset, start_time, file_name}
 
 -- one more text behind those
 put_behind : (old new part rest all : List ℕ) → new ≡ old ++ part → all ≡ new ++ rest → all ≡ old ++ (part ++ rest)
-put_behind old new part rest all is whole =
-    whole ∙ ap (λ (t : List ℕ). t ++ rest) is ∙ append_assoc old part rest
+put_behind old new part rest all is whole = rw (whole, is, append_assoc) refl
 
 pub name_is : (r : Recording) (i : ℕ) (time one two three four five six : List ℕ) → start_time r.header ≡ Some time →
     one ≡ time → two ≡ one ++ 95 ∷ [] → three ≡ two ++ padded 16 (file_offset r i) → four ≡ three ++ 46 ∷ [] →

@@ -1,6 +1,6 @@
 -- Whether a file is open, as the blocks tell it.
-use Rattle.std.proofs.Common.{◌≡◌, ℕ, ◌+◌, ◌-◌, ◌*◌, ◌≤◌, Bool, true, false, List, Option, None, length, refl, sym, ap, ◌∙◌, arith}
-use Rattle.std.specs.Prelude.{nat_lt, ◌&&◌, if◌then◌else◌}
+use Rattle.std.proofs.Common.{◌≡◌, ℕ, ◌-◌, ◌*◌, ◌≤◌, Bool, true, false, List, Option, None, length, refl, ap, ◌∙◌, arith}
+use Rattle.std.specs.Prelude.{nat_lt}
 use Rattle.std.proofs.lemmas.Bool.Decides.{nat_tests}
 use Rattle.std.proofs.lemmas.List.{length-drop}
 use Rattle.ring_blocks.specs.declared.Entry.{Entry}
@@ -28,26 +28,22 @@ used_is place z bytes some placed is =
     ∙ omega (arith, rest, is)
 
 module _ (t : Transfers) (headers blocks : List Entry) (run : IsRunning t headers blocks) where
-  begun_with : (b : Bool) → t.has_header ≡ b → length headers ≡ ended_transfers blocks + (if b then 1 else 0)
-  begun_with b is = run.goes_on.begun ∙ ap (λ (h : Bool). ended_transfers blocks + (if h then 1 else 0)) is
-
   open_with : (b : Bool) → t.has_header ≡ b → t.files.place.is_open ≡ last_file_has_room (plan_in t) headers blocks
   unfolding last_file_has_room
   open_with false is =
-      let begun = begun_with false is in
+      let begun = rw is at run.goes_on.begun in
       let none : nat_lt (ended_transfers blocks) (length headers) ≡ false = grind (arith, nat_tests, begun) in
-      run.between is ∙ sym (ap (λ (b : Bool). b && nat_lt (last_used (plan_in t).file_size
-      (transfer_bytes (ended_transfers blocks) blocks)) (plan_in t).file_size) none)
+      rw none (run.between is)
   open_with true is =
-      let begun = begun_with true is in
+      let begun = rw is at run.goes_on.begun in
       let within = run.within is in
-      let z = t.files.file_size in
       let one : nat_lt (ended_transfers blocks) (length headers) ≡ true = grind (arith, nat_tests, begun) in
-      within.placed.open_exactly
-      ∙ ap (λ (used : ℕ). nat_lt used z) (sym (used_is t.files.place z (transfer_bytes t.ended blocks)
-      run.plan.file_size.0 within.placed within.count))
-      ∙ ap (λ (k : ℕ). nat_lt (last_used z (transfer_bytes k blocks)) z) run.ended
-      ∙ sym (ap (λ (b : Bool). b && nat_lt (last_used z (transfer_bytes (ended_transfers blocks) blocks)) z) one)
+      rw (
+        one,
+        ← run.ended,
+        used_is t.files.place t.files.file_size (transfer_bytes t.ended blocks)
+            run.plan.file_size.0 within.placed within.count,
+      ) within.placed.open_exactly
 
 -- a file is open exactly where the last one has room
 pub open_is : (t : Transfers) (headers blocks : List Entry) (end : Option RecordEnd) →

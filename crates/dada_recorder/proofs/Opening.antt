@@ -1,15 +1,15 @@
 -- A recorder to which no block came.
-use Rattle.std.proofs.Common.{◌≡◌, ℕ, ◌-◌, ◌<◌, Bool, false, List, [], Option, Some, None, length, refl, sym, ap, ◌∙◌, subst, append-nil, arith}
+use Rattle.std.proofs.Common.{◌≡◌, ℕ, ◌-◌, ◌<◌, Bool, false, [], Option, Some, None, length, refl, sym, ◌∙◌, append-nil, arith}
 use Rattle.std.specs.Option.{option_map}
 use Rattle.std.proofs.lemmas.Bool.{false≢true}
 use Rattle.std.proofs.lemmas.Option.{slice_get_within}
-use Rattle.psr_base.specs.Made.{NamedBytes, FilesLeft, FilesSeen}
+use Rattle.psr_base.specs.Made.{FilesLeft, FilesSeen}
 use Rattle.ring_blocks.specs.declared.Entry.{Entry}
 use Rattle.stream_model.specs.Blocks.{joined_bytes, ended_transfers, has_cut, transfer_bytes}
 use Rattle.stream_model.specs.RecordedLaws.{recorded_of_transfers}
 use Rattle.dada_recorder.specs.declared.answers.RecordEnd.{RecordEnd}
 use Rattle.dada_recorder.specs.declared.transfers.Transfers.{Transfers}
-use Rattle.dada_recorder.specs.Making.{Outset, HasMade, BeginsAt, left_after, total_bytes}
+use Rattle.dada_recorder.specs.Making.{Outset, BeginsAt, left_after, total_bytes}
 use Rattle.dada_recorder.specs.Blocks.{RecordPlan, PlanInRange, files_of_blocks}
 use Rattle.dada_recorder.specs.Recording.{GoesOn, FilesAre}
 use Rattle.dada_recorder.specs.declared.space.RecorderSpace.{RecorderSpace}
@@ -39,14 +39,12 @@ pub fresh_runs : (t : Transfers) → PlanInRange (plan_in t) → t.ended ≡ 0 �
     t.has_header ≡ false → t.files.place.is_open ≡ false → IsRunning t [] []
 unfolding joined_bytes ended_transfers
 fresh_runs t range ended finished total header closed =
-    let On : Bool → Type 0 = λ b. GoesOn (plan_in t) b [] [] in
-    let First : ℕ → Type 0 = λ k. 0 ≡ length (files_of_first (plan_in t) [] [] k) in
     record {
       plan = range;
-      goes_on = subst On (sym header) (no_block (plan_in t) range);
+      goes_on = rw header (no_block (plan_in t) range);
       ended = ended;
       total = total;
-      finished = finished ∙ subst First (sym ended) (sym (ap length (no_files (plan_in t))));
+      finished = rw (finished, ended, no_files (plan_in t)) refl;
       few = omega (arith, finished);
       within = λ is. absurd (false≢true (sym header ∙ is));
       between = λ is. closed;
@@ -58,10 +56,9 @@ nothing_taken : (left : Option FilesLeft) → left ≡ option_map (left_after []
 unfolding total_bytes
 nothing_taken None = refl
 nothing_taken (Some left) =
-    let files : left.files ≡ left.files - 0 = omega arith in
-    let bytes : left.bytes ≡ left.bytes - 0 = omega arith in
-    ap (λ (n : ℕ). Some (record { files = n; bytes = left.bytes })) files
-    ∙ ap (λ (n : ℕ). Some (record { files = left.files - 0; bytes = n })) bytes
+    let files : left.files - 0 ≡ left.files = omega arith in
+    let bytes : left.bytes - 0 ≡ left.bytes = omega arith in
+    rw (files, bytes) refl
 
 none_of_blocks : (plan : RecordPlan) → files_of_blocks plan [] [] ≡ []
 unfolding files_of_blocks recorded_of_transfers
@@ -70,17 +67,12 @@ none_of_blocks plan = refl
 pub begins_made : (plan : RecordPlan) (outset : Outset) (is_open : Bool) (end : Option RecordEnd) (seen : FilesSeen) →
     BeginsAt outset seen → is_open ≡ false → end ≡ None → FilesAre plan outset is_open [] [] end seen
 begins_made plan outset is_open end seen begins closed running =
-    let ByEnd : Option RecordEnd → Type 0 = λ e. FilesAre plan outset is_open [] [] e seen in
-    let ByOpen : Bool → Type 0 = λ b. HasMade outset b (files_of_blocks plan [] []) seen in
-    let ByFiles : List NamedBytes → Type 0 = λ files. HasMade outset false files seen in
-    subst ByEnd (sym running) (subst ByOpen (sym closed) (subst ByFiles (sym (none_of_blocks plan)) (record {
-      made = begins.made ∙ ap (λ (files : List NamedBytes). Some (record { finished = files; unfinished = None }))
-          (sym (append-nil outset.files));
+    rw (running, closed, none_of_blocks plan) (record {
+      made = rw (append-nil outset.files) begins.made;
       left = begins.left ∙ nothing_taken outset.left;
-    })))
+    })
 
 pub stands_fresh : (space : RecorderSpace) → space.end ≡ None → IsRunning space.transfers [] [] →
     StandsAt space.transfers [] [] space.end
 stands_fresh space running nothing =
-    let At : Option RecordEnd → Type 0 = λ end. StandsAt space.transfers [] [] end in
-    subst At (sym running) nothing
+    rw running nothing

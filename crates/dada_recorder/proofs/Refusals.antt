@@ -1,5 +1,5 @@
 -- What is refused, and the answers to it.
-use Rattle.std.proofs.Common.{◌≡◌, ℕ, ◌*◌, ◌<◌, ◌≤◌, Bool, cond, List, length, refl, sym, ap, codes, ◌∙◌, arith, Option, Some, None}
+use Rattle.std.proofs.Common.{◌≡◌, ℕ, ◌*◌, ◌<◌, ◌≤◌, List, length, refl, sym, ap, codes, ◌∙◌, arith, Option, Some, None}
 use Rattle.std.proofs.lemmas.Bool.{le-ltb, lt-ltb}
 use Rattle.psr_base.specs.Fixed.{padded}
 use Rattle.dada_model.specs.Fields.{HeaderText}
@@ -18,11 +18,11 @@ use Rattle.dada_recorder.specs.Changes.{Explains, RefusesRecording, change_refus
 pub room_refused : (size : ℕ) (text : List ℕ) → size ≤ length text →
     room_refusal size text ≡ Some (NoRoom (length text) size)
 room_refused size text full =
-    ap (λ (b : Bool). cond b None (Some (NoRoom (length text) size))) (le-ltb (length text) size full)
+    rw (le-ltb (length text) size full) refl
 
 pub room_taken : (size : ℕ) (text : List ℕ) → length text < size → room_refusal size text ≡ None
 room_taken size text fits =
-    ap (λ (b : Bool). cond b None (Some (NoRoom (length text) size))) (lt-ltb (length text) size fits)
+    rw (lt-ltb (length text) size fits) refl
 
 -- ---- a change that is refused
 
@@ -42,20 +42,15 @@ overfull key value header need size is =
 
 -- ---- all refusals in their order
 
-explains : (refused other : Option RecordRefusal) (fault : RecordFault) → refused ≡ other → Explains other fault →
-    Explains refused fault
-explains refused other fault same is = (is.0, same ∙ is.1, is.2)
-
 -- the first refusal counts
 first_counts : (first later : Option RecordRefusal) (fault : RecordFault) → Explains first fault →
     Explains (or_else first later) fault
-first_counts first later fault is = (is.0, ap (λ (r : Option RecordRefusal). or_else r later) is.1, is.2)
+first_counts first later fault is = (is.0, rw is.1 refl, is.2)
 
 -- and a later one where there is none before
 later_counts : (first later : Option RecordRefusal) (fault : RecordFault) → first ≡ None → Explains later fault →
     Explains (or_else first later) fault
-later_counts first later fault none is =
-    explains (or_else first later) later fault (ap (λ (r : Option RecordRefusal). or_else r later) none) is
+later_counts first later fault none is = rw none is
 
 -- ---- the changes for a file
 
@@ -64,7 +59,7 @@ text_two : (r : Recording) (i : ℕ) (one two : HeaderText) →
     IsSet (codes "OBS_OFFSET") (padded 16 (file_offset r i)) r.header one →
     IsSet (codes "FILE_NUMBER") (padded 6 i) one two → two.text ≡ with_number r i
 text_two r i one two first second =
-    second.text ∙ ap (changed (codes "FILE_NUMBER") (padded 6 i)) first.text
+    rw first.text at second.text
 
 pub after_changes : (r : Recording) (i : ℕ) (one two three : HeaderText) →
     IsSet (codes "OBS_OFFSET") (padded 16 (file_offset r i)) r.header one →
@@ -75,7 +70,7 @@ unfolding file_header
 after_changes r i one two three first second third =
     let number = text_two r i one two first second in
     let size : three.text ≡ with_size r i =
-    third.text ∙ ap (changed (codes "FILE_SIZE") (padded 16 r.file_size)) number in
+    rw number at third.text in
     let same : three.size ≡ r.header.size = third.size ∙ second.size ∙ first.size in (
       ap (λ (t : List ℕ). record { size = three.size; text = t }) size
           ∙ ap (λ (n : ℕ). record { size = n; text = with_size r i }) same,
@@ -93,14 +88,9 @@ pub refused_last : (r : Recording) (i : ℕ) (one two : HeaderText) (fault : Rec
     Explains (room_refusal two.size (changed (codes "FILE_SIZE") (padded 16 r.file_size) two.text)) fault →
     Explains (room_refusal r.header.size (with_size r i)) fault
 refused_last r i one two fault first second is =
-    let same : room_refusal r.header.size (with_size r i)
-    ≡ room_refusal two.size (changed (codes "FILE_SIZE") (padded 16 r.file_size) two.text) =
-    ap (λ (t : List ℕ). room_refusal r.header.size (changed (codes "FILE_SIZE") (padded 16 r.file_size) t))
-    (sym (text_two r i one two first second))
-    ∙ ap (λ (n : ℕ). room_refusal n (changed (codes "FILE_SIZE") (padded 16 r.file_size) two.text))
-    (sym (second.size ∙ first.size)) in
-    explains (room_refusal r.header.size (with_size r i))
-    (room_refusal two.size (changed (codes "FILE_SIZE") (padded 16 r.file_size) two.text)) fault same is
+    let number = text_two r i one two first second in
+    let size : two.size ≡ r.header.size = second.size ∙ first.size in
+    rw (number, size) at is
 
 pub refused_third : (r : Recording) (i : ℕ) (one two : HeaderText) (fault : RecordFault) →
     IsSet (codes "OBS_OFFSET") (padded 16 (file_offset r i)) r.header one →
@@ -153,23 +143,19 @@ only_count : (r : Recording) (max_bytes : ℕ) → time_refusal (start_time r.he
 unfolding record_refusal
 only_count r max_bytes time room =
     let size = r.header.size in
-    let last = number_refusal r.file_size max_bytes in
-    let three = or_else (room_refusal size (with_size r 0)) last in
-    let two = or_else (room_refusal size (with_number r 0)) three in
-    let one = or_else (room_refusal size (with_offset r 0)) two in
-    ap (λ (first : Option RecordRefusal). or_else first one) time
-    ∙ ap (λ (first : Option RecordRefusal). or_else first two) (room_taken size (with_offset r 0) room.offset)
-    ∙ ap (λ (first : Option RecordRefusal). or_else first three) (room_taken size (with_number r 0) room.number)
-    ∙ ap (λ (first : Option RecordRefusal). or_else first last) (room_taken size (with_size r 0) room.size)
+    rw (
+      time,
+      room_taken size (with_offset r 0) room.offset,
+      room_taken size (with_number r 0) room.number,
+      room_taken size (with_size r 0) room.size,
+    ) refl
 
 pub refused_count : (r : Recording) (max_bytes : ℕ) → time_refusal (start_time r.header) ≡ None → HeaderHasRoom r 0 →
     r.file_size * 1000000 < max_bytes → record_refusal r max_bytes ≡ Some TooManyFiles
 refused_count r max_bytes time room many =
-    only_count r max_bytes time room
-    ∙ ap (λ (b : Bool). cond b (Some TooManyFiles) None) (lt-ltb (r.file_size * 1000000) max_bytes many)
+    only_count r max_bytes time room ∙ rw (lt-ltb (r.file_size * 1000000) max_bytes many) refl
 
 pub none_refused : (r : Recording) (max_bytes : ℕ) → time_refusal (start_time r.header) ≡ None → HeaderHasRoom r 0 →
     max_bytes ≤ r.file_size * 1000000 → record_refusal r max_bytes ≡ None
 none_refused r max_bytes time room few =
-    only_count r max_bytes time room
-    ∙ ap (λ (b : Bool). cond b (Some TooManyFiles) None) (le-ltb (r.file_size * 1000000) max_bytes few)
+    only_count r max_bytes time room ∙ rw (le-ltb (r.file_size * 1000000) max_bytes few) refl

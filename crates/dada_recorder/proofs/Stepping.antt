@@ -1,5 +1,5 @@
 -- The files of data to which a piece comes.
-use Rattle.std.proofs.Common.{◌≡◌, ℕ, ◌+◌, ◌-◌, ◌*◌, ◌/◌, ◌<◌, ◌≤◌, Bool, true, false, List, [], ◌∷◌, ◌++◌, length, take, drop, min, refl, sym, ap, ◌∙◌, subst, append_assoc, length-append, arith}
+use Rattle.std.proofs.Common.{◌≡◌, ℕ, ◌+◌, ◌-◌, ◌*◌, ◌/◌, ◌<◌, ◌≤◌, Bool, true, false, List, [], ◌∷◌, ◌++◌, length, take, drop, min, refl, sym, ap, ◌∙◌, append_assoc, length-append, arith}
 use Rattle.std.specs.Prelude.{nat_lt, if◌then◌else◌}
 use Rattle.std.proofs.lemmas.Bool.Decides.{nat_tests}
 use Rattle.std.proofs.lemmas.List.{take-append-drop, length-take, length-take-le, take_rest}
@@ -13,6 +13,13 @@ use Rattle.dada_recorder.specs.TransferFiles.{first_files, longer_file, data_byt
 use Rattle.dada_recorder.proofs.Fronts.{front_behind, front_follows}
 use Rattle.dada_recorder.proofs.Cutting.{one_file_more, first_are_front, last_longer, all_files}
 
+pub is_full : (place : FilePlace) (z : ℕ) → IsPlaced place z → place.is_open ≡ false → place.used ≡ z
+is_full place z placed is =
+    let test : nat_lt place.used z ≡ false = sym placed.open_exactly ∙ is in
+    let full : z ≤ place.used = grind (arith, nat_tests, test) in
+    let upto = placed.within in
+    omega (arith, full, upto)
+
 -- the next byte goes into this file, which has room for it
 next_of : (place : FilePlace) (z : ℕ) (b : Bool) → place.is_open ≡ b → IsPlaced place z → 1 ≤ z →
     let p = if b then place else record { number = place.number + 1; used = 0; is_open = true } in
@@ -21,22 +28,13 @@ next_of place z true is placed some =
     let test : nat_lt place.used z ≡ true = sym placed.open_exactly ∙ is in
     (refl, grind (arith, nat_tests, test), is)
 next_of place z false is placed some =
-    let test : nat_lt place.used z ≡ false = sym placed.open_exactly ∙ is in
-    let full : z ≤ place.used = grind (arith, nat_tests, test) in
-    let upto = placed.within in
-    (omega (arith, full, upto), some, refl)
+    let full = is_full place z placed is in
+    (omega (arith, full), some, refl)
 
 pub next_has_room : (place : FilePlace) (z : ℕ) → IsPlaced place z → 1 ≤ z →
     let p = next_place place in
     (p.number * z + p.used ≡ data_bytes place z) × (p.used < z) × (p.is_open ≡ true)
 next_has_room place z placed some = next_of place z place.is_open refl placed some
-
-pub is_full : (place : FilePlace) (z : ℕ) → IsPlaced place z → place.is_open ≡ false → place.used ≡ z
-is_full place z placed is =
-    let test : nat_lt place.used z ≡ false = sym placed.open_exactly ∙ is in
-    let full : z ≤ place.used = grind (arith, nat_tests, test) in
-    let upto = placed.within in
-    omega (arith, full, upto)
 
 -- ---- lists of files
 
@@ -51,8 +49,7 @@ count_above z n bytes some above =
 -- files behind others, of which the last is the file n
 pub behind : (before : List NamedBytes) (r : Recording) (xs : List ℕ) (n : ℕ) →
     before ++ first_files r xs (n + 1) ≡ (before ++ first_files r xs n) ++ recorded_file r xs n ∷ []
-behind before r xs n = ap (λ (fs : List NamedBytes). before ++ fs) (one_file_more r xs n)
-    ∙ sym (append_assoc before (first_files r xs n) (recorded_file r xs n ∷ []))
+behind before r xs n = rw (one_file_more r xs n, append_assoc) refl
 
 -- all files of the data are those up to a place
 pub placed_files : (r : Recording) (place : FilePlace) (xs : List ℕ) → 1 ≤ r.file_size → IsPlaced place r.file_size →
@@ -80,22 +77,15 @@ piece_front before all r n k xs ys some begun within more front =
     let piece = take k ys in
     let both = length-append xs piece in
     let all_bytes = length-append xs ys in
-    let joined : (xs ++ piece) ++ drop k ys ≡ xs ++ ys = append_assoc xs piece (drop k ys)
-    ∙ ap (λ (bs : List ℕ). xs ++ bs) (take-append-drop k ys) in
+    let joined : (xs ++ piece) ++ drop k ys ≡ xs ++ ys = rw (append_assoc, take-append-drop) refl in
     let some_of : IsFileFront (first_files r (xs ++ piece) (n + 1)) (recorded_files r ((xs ++ piece) ++ drop k ys)) =
     first_are_front r (xs ++ piece) (drop k ys) n (omega (arith, begun, both)) (omega (arith, within, both))
     (count_above r.file_size n ((xs ++ piece) ++ drop k ys) some
     (let same = ap length joined in omega (arith, same, all_bytes, begun, more))) in
-    let There : List ℕ → Type 0 = λ bs. IsFileFront (first_files r (xs ++ piece) (n + 1)) (recorded_files r bs) in
-    let here : before ++ first_files r (xs ++ piece) (n + 1)
-    ≡ (before ++ first_files r xs n) ++ longer_file piece (recorded_file r xs n) ∷ [] =
-    ap (λ (fs : List NamedBytes). before ++ fs) (last_longer r xs piece n begun within)
-    ∙ sym (append_assoc before (first_files r xs n) (longer_file piece (recorded_file r xs n) ∷ [])) in
-    let Here : List NamedBytes → Type 0 = λ fs. IsFileFront fs all in
-    subst Here here (front_follows (before ++ first_files r (xs ++ piece) (n + 1))
-    (before ++ recorded_files r (xs ++ ys)) all
-    (front_behind before (first_files r (xs ++ piece) (n + 1)) (recorded_files r (xs ++ ys))
-    (subst There joined some_of)) front)
+    let behind_before = front_behind before (first_files r (xs ++ piece) (n + 1)) (recorded_files r (xs ++ ys))
+    (rw joined at some_of) in
+    rw (append_assoc, ← last_longer r xs piece n begun within) (front_follows
+    (before ++ first_files r (xs ++ piece) (n + 1)) (before ++ recorded_files r (xs ++ ys)) all behind_before front)
 
 -- and these are all files of the data with it
 pub piece_files : (before : List NamedBytes) (r : Recording) (n used k : ℕ) (xs ys : List ℕ) → 0 < r.file_size →
@@ -106,11 +96,12 @@ piece_files before r n used k xs ys some is within more =
     let piece = take k ys in
     let both = length-append xs piece in
     let more_than_none : used + length piece ≡ 0 → n ≡ 0 = λ none. absurd (omega (arith, none, more)) in
-    append_assoc before (first_files r xs n) (longer_file piece (recorded_file r xs n) ∷ [])
-    ∙ ap (λ (fs : List NamedBytes). before ++ fs)
-    (sym (last_longer r xs piece n (omega (arith, is)) (omega (arith, is, within)))
-    ∙ sym (all_files r r.file_size n (used + length piece) (xs ++ piece) refl some (omega (arith, is, both)) within
-    more_than_none))
+    rw (
+      all_files r r.file_size n (used + length piece) (xs ++ piece) refl some (omega (arith, is, both)) within
+          more_than_none,
+      last_longer r xs piece n (omega (arith, is)) (omega (arith, is, within)),
+      append_assoc,
+    ) refl
 
 -- ---- a step over a piece
 
@@ -120,8 +111,7 @@ pub made_first : (outset : Outset) (before : List NamedBytes) (r : Recording) (p
     HasMade outset place.is_open (before ++ recorded_files r xs) seen →
     HasMade outset place.is_open (before ++ first_files r xs (place.number + 1)) seen
 made_first outset before r place xs seen some placed is has =
-    let Made : List NamedBytes → Type 0 = λ fs. HasMade outset place.is_open (before ++ fs) seen in
-    subst Made (placed_files r place xs some placed is) has
+    rw (placed_files r place xs some placed is) at has
 
 -- how long the piece is
 pub record IsPiece (place : FilePlace) (z k : ℕ) (ys : List ℕ) : Type 0 where
@@ -147,15 +137,10 @@ piece_is place next z size k ys placed some is same taken more =
 
 pub taken_more : (t n : ℕ) (xs ys : List ℕ) →
     (xs ++ take t ys) ++ take n (take (length ys - t) (drop t ys)) ≡ xs ++ take (t + n) ys
-taken_more t n xs ys =
-    append_assoc xs (take t ys) (take n (take (length ys - t) (drop t ys)))
-    ∙ ap (λ (bytes : List ℕ). xs ++ bytes)
-    (ap (λ (bytes : List ℕ). take t ys ++ take n bytes) (take_rest ys t) ∙ sym (take-add t n ys))
+taken_more t n xs ys = rw (append_assoc, take_rest, take-add) refl
 
 pub taken_all : (t : ℕ) (xs ys : List ℕ) → (xs ++ take t ys) ++ take (length ys - t) (drop t ys) ≡ xs ++ ys
-taken_all t xs ys =
-    ap (λ (bytes : List ℕ). (xs ++ take t ys) ++ bytes) (take_rest ys t)
-    ∙ append_assoc xs (take t ys) (drop t ys) ∙ ap (λ (bytes : List ℕ). xs ++ bytes) (take-append-drop t ys)
+taken_all t xs ys = rw (append_assoc, take_rest, take-append-drop) refl
 
 pub taken_length : (t total start : ℕ) (xs ys : List ℕ) → t ≤ length ys → length xs ≡ start → total ≡ start + t →
     length (xs ++ take t ys) ≡ total

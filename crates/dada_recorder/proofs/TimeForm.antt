@@ -1,8 +1,9 @@
 -- The form of a time in UTC, byte by byte.
-use Rattle.std.proofs.Common.{◌≡◌, ◌≢◌, ℕ, zero, suc, ◌+◌, ◌<◌, Bool, true, false, List, [], ◌∷◌, length, get_or, drop, cond, refl, sym, ap, ◌∙◌, arith, inl, inr, Option, Some, None}
+use Rattle.std.proofs.Common.{◌≡◌, ◌≢◌, ℕ, zero, suc, ◌+◌, ◌<◌, Bool, true, false, List, [], ◌∷◌, length, get_or, drop, refl, ap, arith, inl, inr, Option, Some, None}
 use Rattle.std.proofs.lemmas.Bool.{cases_eq}
 use Rattle.std.specs.Prelude.{◌&&◌, codes}
 use Rattle.std.proofs.lemmas.List.{drop_all}
+use Rattle.std.proofs.Math.Bool.{and-false}
 use Rattle.stream_model.specs.Recorded.{stands_for, has_form, is_time, time_refusal, BadTime}
 
 -- texts of another length don't have it
@@ -11,11 +12,7 @@ other_length [] [] apart = absurd (apart refl)
 other_length [] (byte ∷ bytes) apart = refl
 other_length (letter ∷ form) [] apart = refl
 other_length (letter ∷ form) (byte ∷ bytes) apart =
-    and_false (stands_for letter byte) (has_form form bytes) (other_length form bytes (λ same. apart (ap suc same)))
-  where
-    and_false : (a b : Bool) → b ≡ false → (a && b) ≡ false
-    and_false true b is = is
-    and_false false b is = refl
+    rw (other_length form bytes (λ same. apart (ap suc same)), and-false) refl
 
 pub no_time : (text : List ℕ) → length text ≢ 19 → is_time text ≡ false
 unfolding is_time
@@ -30,9 +27,7 @@ from_place (letter ∷ form) [] i d e low within = absurd (omega arith)
 from_place (letter ∷ form) (byte ∷ text) zero d e low within = refl
 from_place (letter ∷ form) (byte ∷ text) (suc i) d e low within =
     let next : suc i + 1 ≡ suc (i + 1) = omega arith in
-    from_place form text i d e (omega arith) (omega arith)
-    ∙ sym (ap (λ (n : ℕ). stands_for (get_or form i d) (get_or text i e)
-    && has_form (drop n (letter ∷ form)) (drop n (byte ∷ text))) next)
+    rw next (from_place form text i d e (omega arith) (omega arith))
 
 pub at_first : (text : List ℕ) → has_form (codes "0000-00-00-00:00:00") text ≡ is_time text
 unfolding is_time
@@ -41,22 +36,17 @@ at_first text = refl
 -- a byte that doesn't stand there ends it, and one that does leaves the rest
 pub stops_at : (form text : List ℕ) (i d e : ℕ) (all : Bool) → i < length form → i < length text →
     has_form (drop i form) (drop i text) ≡ all → stands_for (get_or form i d) (get_or text i e) ≡ false → false ≡ all
-stops_at form text i d e all low within is not =
-    sym (ap (λ (b : Bool). b && has_form (drop (i + 1) form) (drop (i + 1) text)) not)
-    ∙ sym (from_place form text i d e low within) ∙ is
+stops_at form text i d e all low within is not = rw (from_place form text i d e low within, not) at is
 
 pub goes_on : (form text : List ℕ) (i d e : ℕ) (all : Bool) → i < length form → i < length text →
     has_form (drop i form) (drop i text) ≡ all → stands_for (get_or form i d) (get_or text i e) ≡ true →
     has_form (drop (i + 1) form) (drop (i + 1) text) ≡ all
-goes_on form text i d e all low within is stands =
-    sym (ap (λ (b : Bool). b && has_form (drop (i + 1) form) (drop (i + 1) text)) stands)
-    ∙ sym (from_place form text i d e low within) ∙ is
+goes_on form text i d e all low within is stands = rw (from_place form text i d e low within, stands) at is
 
 pub none_left : (form text : List ℕ) (all : Bool) → length text ≡ length form →
     has_form (drop (length form) form) (drop (length form) text) ≡ all → true ≡ all
 none_left form text all same is =
-    sym (ap (λ (xs : List ℕ). has_form xs []) (drop_all (length form) form (omega arith)))
-    ∙ sym (ap (has_form (drop (length form) form)) (drop_all (length form) text (omega (arith, same)))) ∙ is
+    rw (drop_all (length form) form (omega arith), drop_all (length form) text (omega (arith, same))) at is
 
 -- a time has nineteen bytes
 pub time_length : (found : Option (List ℕ)) (text : List ℕ) → found ≡ Some text → time_refusal found ≡ None →
@@ -64,8 +54,6 @@ pub time_length : (found : Option (List ℕ)) (text : List ℕ) → found ≡ So
 time_length found text is none = elim (cases_eq (length text) 19) [
   | inl same ↦ same
   | inr apart ↦
-      let bad : time_refusal found ≡ Some BadTime = ap time_refusal is
-      ∙ ap (λ (b : Bool). cond b None (Some BadTime)) (no_time text apart) in
-      let never = sym none ∙ bad in
+      let bad : Some BadTime ≡ None = rw (is, no_time text apart) at none in
       absurd cc
 ]

@@ -1,5 +1,5 @@
 -- What a turn leaves, once its block is cleared.
-use Rattle.std.proofs.Common.{◌≡◌, ℕ, List, [], ◌∷◌, ◌++◌, Option, None, length, take, refl, sym, ap, ◌∙◌, subst, arith}
+use Rattle.std.proofs.Common.{◌≡◌, ℕ, List, [], ◌∷◌, ◌++◌, Option, None, length, take, refl, sym, ap, ◌∙◌, arith}
 use Rattle.std.proofs.Math.Seq.{take-append_seam}
 use Rattle.psr_base.specs.Made.{FilesSeen}
 use Rattle.ring_blocks.specs.declared.Entry.{Entry}
@@ -18,7 +18,7 @@ use Rattle.dada_recorder.specs.Blocks.{files_of_blocks}
 use Rattle.dada_recorder.specs.Making.{Outset, HasMade, IsOpenAs}
 use Rattle.dada_recorder.specs.Recording.{FilesAre}
 use Rattle.dada_recorder.specs.Transfers.{plan_in, IsRunning, StandsAt, EndsClosed, CountsEnd}
-use Rattle.dada_recorder.specs.Spaces.{HasTurned}
+use Rattle.dada_recorder.specs.Spaces.{GoesOnIn, HasTurned}
 use Rattle.dada_recorder.specs.Turns.{cleared_headers, cleared_blocks}
 
 -- the block that was read is the last that was cleared
@@ -30,35 +30,11 @@ cleared_is old middle new word block cleared read =
 -- its bytes stand at the front of the space
 pub front_is : (block space into : List ℕ) (used : ℕ) → used ≡ length block → space ≡ block ++ into →
     block ≡ take used space
-front_is block space into used is whole =
-    sym (ap (take used) whole ∙ ap (λ (n : ℕ). take n (block ++ into)) is ∙ take-append_seam block into)
-
-stands_settled : (t t' : Transfers) (headers headers' blocks blocks' : List Entry) (end end' : Option RecordEnd) →
-    t' ≡ t → headers' ≡ headers → blocks' ≡ blocks → end' ≡ end → StandsAt t headers blocks end →
-    StandsAt t' headers' blocks' end'
-stands_settled t t' headers headers' blocks blocks' end end' same_t same_h same_b same_e stands =
-    let ByT : Transfers → Type 0 = λ s. StandsAt s headers' blocks' end' in
-    let ByH : List Entry → Type 0 = λ hs. StandsAt t hs blocks' end' in
-    let ByB : List Entry → Type 0 = λ bs. StandsAt t headers bs end' in
-    let ByE : Option RecordEnd → Type 0 = λ e. StandsAt t headers blocks e in
-    subst ByT (sym same_t) (subst ByH (sym same_h) (subst ByB (sym same_b) (subst ByE (sym same_e) stands)))
-
-files_settled : (t t' : Transfers) (outset : Outset) (headers headers' blocks blocks' : List Entry)
-    (end end' : Option RecordEnd) (seen : FilesSeen) → t' ≡ t → headers' ≡ headers → blocks' ≡ blocks → end' ≡ end →
-    FilesAre (plan_in t) outset t.files.place.is_open headers blocks end seen →
-    FilesAre (plan_in t') outset t'.files.place.is_open headers' blocks' end' seen
-files_settled t t' outset headers headers' blocks blocks' end end' seen same_t same_h same_b same_e files =
-    let ByT : Transfers → Type 0 = λ s. FilesAre (plan_in s) outset s.files.place.is_open headers' blocks' end' seen in
-    let ByH : List Entry → Type 0 = λ hs. FilesAre (plan_in t) outset t.files.place.is_open hs blocks' end' seen in
-    let ByB : List Entry → Type 0 = λ bs. FilesAre (plan_in t) outset t.files.place.is_open headers bs end' seen in
-    let ByE : Option RecordEnd → Type 0 =
-    λ e. FilesAre (plan_in t) outset t.files.place.is_open headers blocks e seen in
-    subst ByT (sym same_t) (subst ByH (sym same_h) (subst ByB (sym same_b) (subst ByE (sym same_e) files)))
+front_is block space into used is whole = rw (is, whole, take-append_seam) refl
 
 -- a vector that was written through a slice
 pub written_is : (len : ℕ) (into rest : List ℕ) → length into ≡ len → take len (into ++ rest) ≡ into
-written_is len into rest is =
-    ap (λ (n : ℕ). take n (into ++ rest)) (sym is) ∙ take-append_seam into rest
+written_is len into rest is = rw (← is) (take-append_seam into rest)
 
 -- no block was found, and none is cleared
 pub none_cleared : (old new : ReaderView) (stop : ReadStop) → IsReadStop old stop new → new.cleared ≡ old.cleared
@@ -76,15 +52,13 @@ none_counted seen = record {
 -- what stands where it goes on
 pub stands_running : (t : Transfers) (headers blocks : List Entry) (end : Option RecordEnd) → end ≡ None →
     StandsAt t headers blocks end → IsRunning t headers blocks
-stands_running t headers blocks end is stands =
-    subst (λ (e : Option RecordEnd). StandsAt t headers blocks e) is stands
+stands_running t headers blocks end is stands = rw is at stands
 
 -- what the files tell then
 pub files_running : (t : Transfers) (outset : Outset) (headers blocks : List Entry) (end : Option RecordEnd)
     (seen : FilesSeen) → end ≡ None → FilesAre (plan_in t) outset t.files.place.is_open headers blocks end seen →
     HasMade outset t.files.place.is_open (files_of_blocks (plan_in t) headers blocks) seen
-files_running t outset headers blocks end seen is files = subst (λ (e : Option RecordEnd). FilesAre (plan_in t) outset
-    t.files.place.is_open headers blocks e seen) is files
+files_running t outset headers blocks end seen is files = rw is at files
 
 -- the transfers t, and the end that they came to after these blocks, are those of the space
 module _ {F : Type 0} (files_open : F → Type 0) (seen : F → FilesSeen) (hdu : Hdu) (old : RecorderSpace) (files : F)
@@ -103,12 +77,28 @@ module _ {F : Type 0} (files_open : F → Type 0) (seen : F → FilesSeen) (hdu 
     ring = ring;
     plan = ap plan_in same_t ∙ plan;
     block = block;
-    is_open = λ running. subst (λ (s : Transfers). IsOpenAs s.files.place.is_open (files_open files')) (sym same_t)
-        (is_open (sym same_e ∙ running));
-    closed = subst (λ (e : Option RecordEnd). EndsClosed e (files_open files')) (sym same_e) closed;
-    stands = stands_settled t new.transfers headers (cleared_headers pass') blocks (cleared_blocks pass') end new.end
-        same_t same_h same_b same_e stands;
-    made = λ outset has. files_settled t new.transfers outset headers (cleared_headers pass') blocks
-        (cleared_blocks pass') end new.end (seen files') same_t same_h same_b same_e (made outset has);
-    faults = subst (λ (e : Option RecordEnd). CountsEnd e (seen files) (seen files')) (sym same_e) faults;
+    is_open = λ running. rw same_t (is_open (sym same_e ∙ running));
+    closed = rw same_e closed;
+    stands = rw (same_t, same_e, same_h, same_b) stands;
+    made = λ outset has. rw (same_t, same_e, same_h, same_b) (made outset has);
+    faults = rw same_e faults;
   }
+
+-- no block was found
+pub has_waited : {F : Type 0} {files_open : F → Type 0} {seen : F → FilesSeen} {hdu : Hdu} {old new : RecorderSpace}
+    {files : F} {pass : HduReader} (pass' : HduReader) → GoesOnIn files_open hdu old files pass →
+    new.transfers ≡ old.transfers → new.end ≡ old.end → new.block ≡ old.block → ReadsBoth hdu pass' →
+    cleared_headers pass' ≡ cleared_headers pass → cleared_blocks pass' ≡ cleared_blocks pass →
+    HasTurned files_open seen hdu old files pass new files pass'
+has_waited {seen = seen} {files = files} pass' goes_on same_t same_e block ring headers blocks =
+    let running = same_e ∙ goes_on.running in
+    record {
+      ring = ring;
+      plan = ap plan_in same_t;
+      block = block;
+      is_open = λ is. rw same_t goes_on.is_open;
+      closed = rw running tt;
+      stands = rw (running, same_t, headers, blocks) goes_on.stands;
+      made = λ outset has. rw (running, same_t, headers, blocks) has;
+      faults = rw running (none_counted (seen files));
+    }

@@ -1,8 +1,7 @@
-use Rattle.std.proofs.Common.{◌≡◌, ℕ, ◌-◌, List, ◌++◌, ap, sym, ◌∙◌, subst, arith, lit<, length, replicate}
+use Rattle.std.proofs.Common.{◌≡◌, ℕ, ◌-◌, refl, ap, ◌∙◌, arith, lit<, length}
 use Rattle.std.specs.Fmt.{decimal}
 use Rattle.std.proofs.lemmas.List.{length-replicate}
 use Rattle.std.proofs.lemmas.Fmt.{length-decimal-le}
-use Rattle.dada_model.specs.Change.{IsWord}
 use Rattle.dada_recorder.proofs.Padded.{length-padded, padded_word}
 use Rattle.dada_recorder.proofs.changes.padded_number.Goals as goal
 
@@ -17,13 +16,9 @@ push_str-requires c =
 
 pub returns-clause-text : goal.returns-clause-text
 returns-clause-text c =
-    let text = c.format-text.result.now in
     let size = ap length c.format-text.ensures.text in
     let count : c.loop.counter ≡ c.args.digits - length (decimal c.args.number) = omega arith in
-    c.push_str.ensures.bytes ∙ ap (λ (ys : List ℕ). ys ++ text) c.loop.invariant
-    ∙ ap (λ m. replicate m 48 ++ text) count
-    ∙ ap (λ (ys : List ℕ). replicate (c.args.digits - length (decimal c.args.number)) 48 ++ ys)
-    c.format-text.ensures.text
+    rw (c.push_str.ensures.bytes, c.loop.invariant, count, c.format-text.ensures.text) refl
 
 pub returns-clause-len : goal.returns-clause-len
 returns-clause-len c =
@@ -32,6 +27,5 @@ returns-clause-len c =
 
 pub returns-clause-word : goal.returns-clause-word
 returns-clause-word c =
-    let Word : List ℕ → Type 0 = λ text. IsWord text in
-    subst Word (sym (returns-clause-text c))
+    rw (returns-clause-text c)
     (padded_word c.args.digits c.args.number (omega (arith, c.requires.some)) c.requires.fits c.ranges.number.fits)

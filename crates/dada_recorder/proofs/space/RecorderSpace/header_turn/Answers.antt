@@ -1,8 +1,8 @@
-use Rattle.std.proofs.Common.{None, [], ◌∷◌, ◌++◌, refl, ap, ◌∙◌, length, drop}
+use Rattle.std.proofs.Common.{[], ◌∷◌, ◌++◌, refl, ap, ◌∙◌, length, drop}
 use Rattle.ring_ends.specs.declared.passes.ReaderPass.{ReaderPass}
 use Rattle.ring_ends.specs.Passes.{reader_knows}
 use Rattle.dada_recorder.specs.Turns.{cleared_headers, cleared_blocks}
-use Rattle.dada_recorder.proofs.Turning.{cleared_is, front_is, written_is, none_cleared, none_counted, has_turned}
+use Rattle.dada_recorder.proofs.Turning.{cleared_is, front_is, written_is, none_cleared, has_turned, has_waited}
 use Rattle.dada_recorder.proofs.space.RecorderSpace.header_turn.Goals as goal
 
 pub returns-in-Ok-clause-turned : goal.returns-in-Ok-clause-turned
@@ -32,12 +32,7 @@ returns-in-Ok-clause-turned g c =
 
 pub returns-in-Err-clause-turned : goal.returns-in-Err-clause-turned
 returns-in-Err-clause-turned g c =
-    let old = c.args.pass.now in
-    let new = c.read_header.new.pass in
-    let goes_on = c.requires.goes_on in
-    has_turned g.F.Files.is_open g.F.Files.seen c.args.hdu.now c.args.self.now c.args.files.now old _
-    c.args.files.now new c.args.self.now.transfers (cleared_headers old) (cleared_blocks old) None refl
-    goes_on.running refl
-    (none_cleared (reader_knows old.header) (reader_knows new.header) c.in-Err.stop c.in-Err.ensures.header.cases)
-    (ap (λ (p : ReaderPass). (reader_knows p).cleared) c.in-Err.ensures.blocks) c.in-Err.ensures.ring refl
-    (λ running. goes_on.is_open) tt goes_on.stands (λ outset has. has) (none_counted (g.F.Files.seen c.args.files.now))
+    has_waited c.read_header.new.pass c.requires.goes_on refl refl refl c.in-Err.ensures.ring
+    (none_cleared (reader_knows c.args.pass.now.header) (reader_knows c.read_header.new.pass.header) c.in-Err.stop
+    c.in-Err.ensures.header.cases)
+    (ap (λ (p : ReaderPass). (reader_knows p).cleared) c.in-Err.ensures.blocks)

@@ -1,7 +1,5 @@
-use Rattle.std.proofs.Common.{ℕ, ◌-◌, List, ◌++◌, length, take, drop, sym, ◌∙◌, subst, arith}
+use Rattle.std.proofs.Common.{◌-◌, ◌++◌, length, take, drop, ◌∙◌, arith}
 use Rattle.std.proofs.lemmas.List.{length-take, length-drop}
-use Rattle.stream_model.specs.Recorded.{Recording, recorded_files}
-use Rattle.dada_recorder.specs.Making.{HasMade, IsFileFront}
 use Rattle.dada_recorder.specs.TransferFiles.{recording_in}
 use Rattle.dada_recorder.proofs.Stepping.{taken_more, taken_all, taken_length}
 use Rattle.dada_recorder.proofs.transfer_files.TransferFiles.append.Goals as goal
@@ -28,17 +26,10 @@ loop-taken-preserved g c =
       is_open = c.in-Ok.ensures.is_open;
       faults = c.in-Ok.ensures.faults.none ∙ before.faults;
       made = λ files xs is outset has.
-          let Was : Recording → Type 0 = λ s.
-          HasMade outset c.loop-taken.self.place.is_open (files ++ recorded_files s (xs ++ take t ys)) old in
-          let Now : Recording → Type 0 = λ s.
-          HasMade outset c.step.new.self.place.is_open
-          (files ++ recorded_files s ((xs ++ take t ys) ++ take n (take (length ys - t) (drop t ys)))) new in
-          let Bytes : List ℕ → Type 0 = λ bytes.
-          HasMade outset c.step.new.self.place.is_open (files ++ recorded_files r bytes) new in
           let now = (c.in-Ok.ensures.made files (xs ++ take t ys)
           (taken_length t _ _ xs ys before.within is before.count)).all outset
-          (subst Was (sym before.kept) (before.made files xs is outset has)) in
-          subst Bytes (taken_more t n xs ys) (subst Now before.kept now);
+          (rw before.kept (before.made files xs is outset has)) in
+          rw (before.kept, taken_more t n xs ys) at now;
     }
 
 pub returns-in-Err-clause-made : goal.returns-in-Err-clause-made
@@ -51,13 +42,7 @@ returns-in-Err-clause-made g c = λ files xs is.
     record {
       all = λ outset has. tt;
       front = λ outset all has front.
-          let Was : Recording → Type 0 = λ s.
-          HasMade outset c.loop-taken.self.place.is_open (files ++ recorded_files s (xs ++ take t ys)) old in
-          let To : Recording → Type 0 = λ s.
-          IsFileFront (files ++ recorded_files s ((xs ++ take t ys) ++ take (length ys - t) (drop t ys))) all in
-          let Bytes : List ℕ → Type 0 = λ bytes. IsFileFront (files ++ recorded_files r bytes) all in
           (c.in-Err.ensures.made files (xs ++ take t ys)
           (taken_length t _ _ xs ys before.within is before.count)).front outset all
-          (subst Was (sym before.kept) (before.made files xs is outset has))
-          (subst To (sym before.kept) (subst Bytes (sym (taken_all t xs ys)) front));
+          (rw before.kept (before.made files xs is outset has)) (rw (before.kept, taken_all t xs ys) front);
     }

@@ -1,9 +1,5 @@
-use Rattle.std.proofs.Common.{◌≡◌, ◌+◌, Bool, true, false, List, [], ◌∷◌, ◌++◌, sym, ap, ◌∙◌, subst, append_assoc, arith}
-use Rattle.std.specs.Prelude.{if◌then◌else◌}
-use Rattle.psr_base.specs.Made.{NamedBytes}
-use Rattle.dada_recorder.specs.Making.{Makes}
-use Rattle.dada_recorder.specs.declared.transfer_files.FilePlace.{FilePlace}
-use Rattle.dada_recorder.specs.TransferFiles.{recording_in, header_file, first_files, next_place}
+use Rattle.std.proofs.Common.{◌+◌, ◌++◌, append_assoc, arith}
+use Rattle.dada_recorder.specs.TransferFiles.{recording_in, first_files}
 use Rattle.dada_recorder.proofs.Cutting.{next_begun}
 use Rattle.dada_recorder.proofs.Limits.{has_numbers, time_accepted}
 use Rattle.dada_recorder.proofs.Stepping.{is_full}
@@ -33,20 +29,6 @@ returns-else-self-clause-made g c = λ before xs is.
     let place = c.args.self.now.place in
     let z = c.args.self.now.file_size in
     let n = place.number in
-    let old = g.F.Files.seen c.args.files.now in
-    let new = g.F.Files.seen c.start_file.new.files in
     let full = is_full place z c.requires.placed c.if-self.false in
-    let Step : Bool → List NamedBytes → Type 0 = λ was_open fs.
-    Makes was_open (before ++ first_files r xs (n + 1)) true fs old new c.start_file.result in
-    let Open : Bool → Type 0 = λ was_open.
-    Step was_open (before ++ first_files r xs ((next_place place).number + 1)) in
-    let Files : List NamedBytes → Type 0 = λ fs. Step false fs in
-    let next : next_place place ≡ record { number = n + 1; used = 0; is_open = true } =
-    ap (λ b. if b then place else record { number = n + 1; used = 0; is_open = true }) c.if-self.false in
-    let files : (before ++ first_files r xs (n + 1)) ++ header_file r (n + 1) ∷ []
-    ≡ before ++ first_files r xs ((next_place place).number + 1) =
-    append_assoc before (first_files r xs (n + 1)) (header_file r (n + 1) ∷ [])
-    ∙ ap (λ (fs : List NamedBytes). before ++ fs) (sym (next_begun r xs (n + 1) (omega (arith, is, full))))
-    ∙ ap (λ (p : FilePlace). before ++ first_files r xs (p.number + 1)) (sym next) in
-    subst Open (sym c.if-self.false)
-    (subst Files files (c.start_file.ensures.made (before ++ first_files r xs (n + 1))))
+    rw (c.if-self.false, next_begun r xs (n + 1) (omega (arith, is, full)), ← append_assoc)
+    (c.start_file.ensures.made (before ++ first_files r xs (n + 1)))

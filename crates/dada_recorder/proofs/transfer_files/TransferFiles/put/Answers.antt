@@ -1,7 +1,4 @@
-use Rattle.std.proofs.Common.{Bool, [], ◌∷◌, ◌++◌, sym, ap, subst}
-use Rattle.dada_recorder.specs.Making.{HasMade}
 use Rattle.dada_recorder.specs.TransferFiles.{longer_file}
-use Rattle.dada_recorder.specs.declared.transfer_files.FilePlace.{FilePlace}
 use Rattle.dada_recorder.proofs.Making.{appended_made, append_breaks}
 use Rattle.dada_recorder.proofs.Results.{both_ok}
 use Rattle.dada_recorder.proofs.transfer_files.TransferFiles.put.Goals as goal
@@ -20,16 +17,13 @@ pub returns-then-self-clause-made : goal.returns-then-self-clause-made
 returns-then-self-clause-made g c = λ before file.
     let old = g.F.Files.seen c.args.files.now in
     let middle = g.F.Files.seen c.append_all.new.files in
-    let new = g.F.Files.seen c.finish_file.new.files in
     let bytes = c.args.bytes.now in
     let long = longer_file bytes file in
-    let place = c.finish_file.new.self.place in
     let finishes = c.finish_file.ensures.made before long in
     record {
       all = λ outset has.
-          let Made : Bool → Type 0 = λ is_open. HasMade outset is_open (before ++ long ∷ []) new in
           both_ok c.finish_file.result
-          (λ is made. subst Made (sym (ap (λ (p : FilePlace). p.is_open) is)) made)
+          (λ is made. rw is made)
           c.finish_file.ensures.place
           (finishes.all outset (appended_made outset before file bytes old middle has c.in-Ok.ensures.appended.all));
       front = λ outset all has front.
@@ -44,8 +38,6 @@ returns-else-self-clause-made g c = λ before file.
     let bytes = c.args.bytes.now in
     record {
       all = λ outset has.
-          let Made : Bool → Type 0 = λ is_open. HasMade outset is_open (before ++ longer_file bytes file ∷ []) new in
-          subst Made (sym c.requires.open)
-          (appended_made outset before file bytes old new has c.in-Ok.ensures.appended.all);
+          rw c.requires.open (appended_made outset before file bytes old new has c.in-Ok.ensures.appended.all);
       front = λ outset all has front. tt;
     }

@@ -1,6 +1,3 @@
-use Rattle.std.proofs.Common.{true, false, List, ◌++◌, sym, subst}
-use Rattle.psr_base.specs.Made.{NamedBytes}
-use Rattle.dada_recorder.specs.Making.{Makes}
 use Rattle.dada_recorder.specs.TransferFiles.{recording_in}
 use Rattle.dada_recorder.proofs.Cutting.{no_data_files}
 use Rattle.dada_recorder.proofs.Limits.{has_first_numbers, time_accepted}
@@ -17,8 +14,4 @@ start_file-requires-clause-time g c =
 
 pub returns-clause-made : goal.returns-clause-made
 returns-clause-made g c = λ before.
-    let r = recording_in c.args.self.now in
-    let Files : List NamedBytes → Type 0 = λ files.
-    Makes false before true (before ++ files) (g.F.Files.seen c.args.files.now) (g.F.Files.seen c.start_file.new.files)
-    c.start_file.result in
-    subst Files (sym (no_data_files r c.requires.accepted.some)) (c.start_file.ensures.made before)
+    rw (no_data_files (recording_in c.args.self.now) c.requires.accepted.some) (c.start_file.ensures.made before)

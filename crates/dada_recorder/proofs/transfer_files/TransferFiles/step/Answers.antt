@@ -1,7 +1,5 @@
-use Rattle.std.proofs.Common.{true, List, ◌++◌, sym, ap, ◌∙◌, subst, arith}
-use Rattle.psr_base.specs.Made.{NamedBytes}
+use Rattle.std.proofs.Common.{◌++◌, sym, ap, ◌∙◌, arith}
 use Rattle.stream_model.specs.Recorded.{Recording, recorded_file}
-use Rattle.dada_recorder.specs.Making.{HasMade}
 use Rattle.dada_recorder.specs.TransferFiles.{recording_in, first_files, next_place}
 use Rattle.dada_recorder.proofs.Stepping.{next_has_room, made_first, piece_is, behind, begun_front, piece_front, piece_files}
 use Rattle.dada_recorder.proofs.transfer_files.TransferFiles.step.Goals as goal
@@ -32,8 +30,6 @@ returns-in-Ok-put-clause-made g c = λ before xs is.
     let some = c.requires.limit.can.some in
     let next = next_has_room place z c.requires.placed some in
     let old = g.F.Files.seen c.args.files.now in
-    let middle = g.F.Files.seen c.make_room.new.files in
-    let new = g.F.Files.seen c.put.new.files in
     let bytes = c.args.bytes.now in
     let taken = c.min-taken.result in
     let piece = piece_is place c.make_room.new.self.place z c.make_room.new.self.file_size taken bytes
@@ -43,12 +39,10 @@ returns-in-Ok-put-clause-made g c = λ before xs is.
     let first = before ++ first_files r xs p.number in
     record {
       all = λ outset has.
-          let Middle : List NamedBytes → Type 0 = λ fs. HasMade outset true fs middle in
-          let New : List NamedBytes → Type 0 = λ fs. HasMade outset c.put.new.self.place.is_open fs new in
           let room = (c.in-Ok.ensures.made before xs is).all outset
           (made_first outset before r place xs old some c.requires.placed is has) in
-          subst New (piece_files before r p.number p.used taken xs bytes some (is ∙ sym next.0) piece.within piece.some)
-          ((c.in-Ok-put.ensures.made first file).all outset (subst Middle (behind before r xs p.number) room));
+          rw (← piece_files before r p.number p.used taken xs bytes some (is ∙ sym next.0) piece.within piece.some)
+          ((c.in-Ok-put.ensures.made first file).all outset (rw (behind before r xs p.number) at room));
       front = λ outset all has front. tt;
     }
 
@@ -61,7 +55,6 @@ returns-in-Err-put-clause-made g c = λ before xs is.
     let some = c.requires.limit.can.some in
     let next = next_has_room place z c.requires.placed some in
     let old = g.F.Files.seen c.args.files.now in
-    let middle = g.F.Files.seen c.make_room.new.files in
     let bytes = c.args.bytes.now in
     let taken = c.min-taken.result in
     let piece = piece_is place c.make_room.new.self.place z c.make_room.new.self.file_size taken bytes
@@ -72,10 +65,9 @@ returns-in-Err-put-clause-made g c = λ before xs is.
     record {
       all = λ outset has. tt;
       front = λ outset all has front.
-          let Middle : List NamedBytes → Type 0 = λ fs. HasMade outset true fs middle in
           let room = (c.in-Ok.ensures.made before xs is).all outset
           (made_first outset before r place xs old some c.requires.placed is has) in
-          (c.in-Err-put.ensures.made first file).front outset all (subst Middle (behind before r xs p.number) room)
+          (c.in-Err-put.ensures.made first file).front outset all (rw (behind before r xs p.number) at room)
           (piece_front before all r p.number taken xs bytes some (omega (arith, is, next.0))
           (let fits = piece.within in omega (arith, is, next.0, fits)) c.requires.some front);
     }

@@ -1,7 +1,4 @@
-use Rattle.std.proofs.Common.{List, sym, subst}
-use Rattle.psr_base.specs.Made.{NamedBytes}
 use Rattle.stream_model.specs.Blocks.{transfer_bytes}
-use Rattle.dada_recorder.specs.Making.{HasMade, IsFileFront}
 use Rattle.dada_recorder.specs.Transfers.{plan_in, files_of_first}
 use Rattle.dada_recorder.proofs.DataBlocks.{within_limit, data_appended, data_breaks_off, files_before, files_after}
 use Rattle.dada_recorder.proofs.transfers.Transfers.append.Goals as goal
@@ -21,21 +18,15 @@ pub returns-in-Ok-clause-made : goal.returns-in-Ok-clause-made
 returns-in-Ok-clause-made g c = λ headers blocks block same run.
     let t = c.args.self.now in
     let f = c.append.new.self in
-    let old = g.F.Files.seen c.args.files.now in
-    let new = g.F.Files.seen c.append.new.files in
     let xs = transfer_bytes t.ended blocks in
     let before = files_of_first (plan_in t) headers blocks t.ended in
     let header = c.requires.header in
     let appends = c.in-Ok.ensures.made before xs (run.within header).count in
     record {
       all = λ outset has.
-          let Old : List NamedBytes → Type 0 = λ fs.
-          HasMade outset t.files.place.is_open fs old in
-          let New : List NamedBytes → Type 0 = λ fs.
-          HasMade outset f.place.is_open fs new in
-          subst New (sym (files_after c.entries_are_of_transfers.ensures t f t.total headers
-          blocks block c.args.bytes.now same header run c.in-Ok.ensures.kept))
-          (appends.all outset (subst Old (files_before t headers blocks header run) has));
+          rw (files_after c.entries_are_of_transfers.ensures t f t.total headers blocks block c.args.bytes.now same
+          header run c.in-Ok.ensures.kept)
+          (appends.all outset (rw (files_before t headers blocks header run) at has));
       front = λ outset all has front. tt;
     }
 
@@ -48,7 +39,6 @@ pub returns-in-Err-clause-made : goal.returns-in-Err-clause-made
 returns-in-Err-clause-made g c = λ headers blocks block same run.
     let t = c.args.self.now in
     let f = c.append.new.self in
-    let old = g.F.Files.seen c.args.files.now in
     let xs = transfer_bytes t.ended blocks in
     let before = files_of_first (plan_in t) headers blocks t.ended in
     let header = c.requires.header in
@@ -56,10 +46,7 @@ returns-in-Err-clause-made g c = λ headers blocks block same run.
     record {
       all = λ outset has. tt;
       front = λ outset all has front.
-          let Old : List NamedBytes → Type 0 = λ fs.
-          HasMade outset t.files.place.is_open fs old in
-          let Front : List NamedBytes → Type 0 = λ fs. IsFileFront fs all in
-          appends.front outset all (subst Old (files_before t headers blocks header run) has)
-          (subst Front (files_after c.entries_are_of_transfers.ensures t f t.total headers
-          blocks block c.args.bytes.now same header run c.in-Err.ensures.kept) front);
+          appends.front outset all (rw (files_before t headers blocks header run) at has)
+          (rw (files_after c.entries_are_of_transfers.ensures t f t.total headers blocks block c.args.bytes.now same
+          header run c.in-Err.ensures.kept) at front);
     }

@@ -1,4 +1,4 @@
-use Rattle.dada_recorder.proofs.LongBlocks.{before_last, last_file, long_is, long_breaks_off, long_made, long_front, last_made}
+use Rattle.dada_recorder.proofs.LongBlocks.{long_is, long_breaks_off, long_made, long_front, long_makes}
 use Rattle.dada_recorder.proofs.transfers.Transfers.long_block.Goals as goal
 
 pub returns-clause-stands : goal.returns-clause-stands
@@ -10,11 +10,9 @@ pub returns-clause-made : goal.returns-clause-made
 returns-clause-made g c = λ headers blocks block run outset made.
     let t = c.args.self.now in
     let f = c.close.new.self in
-    let header = c.requires.header in
     let kept = c.in_default.ensures.kept in
-    long_made t f headers blocks header run kept block outset (g.F.Files.seen c.close.new.files)
-    ((c.in_default.ensures.made (before_last t headers blocks) (last_file t blocks)).all outset
-    (last_made t f headers blocks header run kept outset (g.F.Files.seen c.args.files.now) made))
+    long_made t f headers blocks c.requires.header run kept block outset (g.F.Files.seen c.close.new.files)
+    ((long_makes t f headers blocks c.requires.header run kept c.in_default.ensures.made).all outset made)
 
 pub returns-in-Err-clause-stands : goal.returns-in-Err-clause-stands
 returns-in-Err-clause-stands g c = λ headers blocks block many run.
@@ -25,8 +23,6 @@ pub returns-in-Err-clause-made : goal.returns-in-Err-clause-made
 returns-in-Err-clause-made g c = λ headers blocks block run outset made all front.
     let t = c.args.self.now in
     let f = c.close.new.self in
-    let header = c.requires.header in
     let kept = c.in-Err.ensures.kept in
-    (c.in-Err.ensures.made (before_last t headers blocks) (last_file t blocks)).front outset all
-    (last_made t f headers blocks header run kept outset (g.F.Files.seen c.args.files.now) made)
-    (long_front t f headers blocks header run kept block c.entries_are_of_transfers.ensures all front)
+    (long_makes t f headers blocks c.requires.header run kept c.in-Err.ensures.made).front outset all made
+    (long_front t f headers blocks c.requires.header run kept block c.entries_are_of_transfers.ensures all front)
