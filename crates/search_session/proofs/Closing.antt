@@ -1,5 +1,5 @@
 -- A session from its staffing to its end.
-use Rattle.std.proofs.Common.{◌≡◌, ℕ, ◌%◌, ◌<◌, List, [], ◌++◌, length, take, drop, Option, Some, None, slice_get, refl, sym, ap, ◌∙◌, subst, arith}
+use Rattle.std.proofs.Common.{◌≡◌, ℕ, ◌%◌, ◌<◌, List, [], ◌++◌, length, take, drop, Option, Some, None, slice_get, refl, ◌∙◌, arith}
 use Rattle.std.specs.Prelude.{All, IfSome}
 use Rattle.std.proofs.lemmas.Option.{slice_get_within}
 use Rattle.psr_base.specs.Told.{Told}
@@ -31,9 +31,9 @@ use Rattle.search_session.specs.Books.{HasBank, HasBook, AreCounted}
 use Rattle.search_session.specs.Ends.{HaveEnginesIn, recorder_passes}
 use Rattle.search_session.specs.Recorded.{HasNoRecording, RecordedAnswers}
 use Rattle.search_session.specs.Sessions.{FeedAnswers, IsSearched, ShardAnswers, IsEndOf, IsEndOfRecorder}
-use Rattle.search_session.proofs.Rows.{all_written}
+use Rattle.search_session.proofs.Rows.{all_at, one_at, all_written}
 use Rattle.search_session.proofs.Working.{feeder_stays, shard_stays, banks_stay, recorder_stays}
-use Rattle.search_session.proofs.Ending.{all_at, on_in, ended_in, of_bank_in, feeder_on, recorder_on, recorder_ended, cleared_at, searched}
+use Rattle.search_session.proofs.Ending.{on_in, ended_in, of_bank_in, feeder_on, recorder_on, recorder_ended, cleared_at, searched}
 use Rattle.search_session.proofs.FeedEnds.{SessionLaws, feed_answers, is_ending, keep_up, headers_sealed, all_few}
 use Rattle.search_session.proofs.Recordings.{some_end, recorded_by}
 use Rattle.search_session.proofs.Holding.{held_found}
@@ -52,21 +52,17 @@ module _ {I F : Type 0} (seen : F → FilesSeen) (number : ℕ) (hands : List (H
 
   pub works_some : (start : RecordActor F) → (has : HasRecorder seen start hands) →
       recorder_in hands ≡ Some has.recorder
-  works_some start has = ap (λ (slot : Option (Hand I F)). recorder_of slot) has.there ∙ has.works
+  works_some start has = rw has.there has.works
 
   pub works_count : (recorder : Option (Recorder F)) → RecorderWorks seen recorder number hands →
       length (recorder_passes (recorder_in hands)) ≡ recorder_count recorder
-  works_count None none = ap (λ (o : Option (RecordActor F)). length (recorder_passes o)) (works_none none)
-  works_count (Some part) works =
-      ap (λ (o : Option (RecordActor F)). length (recorder_passes o)) (works_some works.0 works.2)
+  works_count None none = rw (works_none none) refl
+  works_count (Some part) works = rw (works_some works.0 works.2) refl
 
   pub works_last : (recorder : Option (Recorder F)) → RecorderWorks seen recorder number hands →
       IfSome (recorder_in hands) (λ (x : RecordActor F). number_of x.pass ≡ number)
-  works_last None none = subst (λ (o : Option (RecordActor F)). IfSome o (λ (x : RecordActor F). number_of x.pass ≡
-      number)) (sym (works_none none)) _
-  works_last (Some part) works =
-      subst (λ (o : Option (RecordActor F)). IfSome o (λ (x : RecordActor F). number_of x.pass
-      ≡ number)) (sym (works_some works.0 works.2)) (works.2.moved.number ∙ works.1.number_is)
+  works_last None none = rw (works_none none) tt
+  works_last (Some part) works = rw (works_some works.0 works.2) (works.2.moved.number ∙ works.1.number_is)
 
 module _ {I F : Type 0} (told : I → Told) (is_open is_calm : I → Type 0) (faults : I → ℕ) (files_open : F → Type 0)
     (seen : F → FilesSeen) where
@@ -105,11 +101,8 @@ module _ {I F : Type 0} (told : I → Told) (is_open is_calm : I → Type 0) (fa
       All (HandOn told is_open files_open hdu) two → All HandEnded two → AllEnded hdu start banks recorder last
   hands_ended hdu start banks recorder items first two last len n shown long written moved
       feeder shards of works on ended =
-      subst (λ (l : List (Hand I F)). AllEnded hdu start banks recorder l)
-      (sym (written ∙ all_written len items two (moved.count ∙ long)))
-      (all_ended hdu start banks recorder items two n
-      (subst (λ (l : List (Hand I F)). EachMoved (HandMoved told is_calm faults seen n) l two)
-      shown moved) feeder shards of works on ended)
+      rw (written, all_written len items two (moved.count ∙ long)) (all_ended hdu start banks recorder items two n
+      (rw shown at moved) feeder shards of works on ended)
 
   -- a session that ended
   module _ (hdu : Hdu) (start : FeedActor I) (banks : List (Option Bank)) (recorder : Option (Recorder F))
@@ -146,7 +139,7 @@ module _ {I F : Type 0} (told : I → Told) (is_open is_calm : I → Type 0) (fa
           × IsEndOf end s x)
         where
           ends_so : IsEnding transfers (sealed_at_end end.blocks) end.feed
-          ends_so = subst (λ (k : ℕ). IsEnding k (sealed_at_end end.blocks) end.feed) same ending
+          ends_so = rw same at ending
 
           all_cleared : (s : ℕ) → s < length banks → cleared_at_end end.blocks s ≡ sealed_at_end end.blocks
           all_cleared s near =
@@ -172,15 +165,12 @@ module _ {I F : Type 0} (told : I → Told) (is_open is_calm : I → Type 0) (fa
               let near = slice_get_within banks s (Some bank) at in
               let x = ends s near in
               let h = unfed s near in
-              let this : h.0 ≡ bank = inside h.0 bank (sym h.1 ∙ at) in
+              let this : h.0 ≡ bank = one_at banks s h.0 bank h.1 at in
               searched hdu transfers banks end ends_so s x.0 x.2 x.3
               (on_in told is_open files_open hdu hands all.on x.0 x.1) (ended_in hands x.0 all.ended x.1)
               (of_bank_in banks hands x.0 all.of_banks x.1) bank at
-              (ap (λ (l : Bank). length (engines_of l)) (sym this) ∙ h.2.count)
+              (rw this at h.2.count)
               bytes whole transfer e o has stands
-            where
-              inside : (a b : Bank) → Some (Some a) ≡ Some (Some b) → a ≡ b
-              inside a b e = cc
 
           pub shards_are : ShardAnswers transfers banks end
           shards_are = record {

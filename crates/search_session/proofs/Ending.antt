@@ -1,20 +1,18 @@
 -- What is known once all actors have ended: two lists are compared once.
-use Rattle.std.proofs.Common.{◌≡◌, ℕ, ◌%◌, ◌<◌, Bool, true, List, [], ◌++◌, length, Option, Some, None, slice_get, refl, sym, ap, ◌∙◌, subst, arith}
+use Rattle.std.proofs.Common.{◌≡◌, ℕ, ◌%◌, ◌<◌, true, List, [], length, Option, Some, None, slice_get, refl, sym, ◌∙◌, arith}
 use Rattle.std.specs.Prelude.{All, IfSome, IsSome, nat_lt}
 use Rattle.std.proofs.lemmas.List.{append-nil}
 use Rattle.std.proofs.lemmas.List.Elements.{All-weaker}
 use Rattle.std.proofs.lemmas.Bool.Decides.{nat_tests}
-use Rattle.std.proofs.lemmas.Option.{slice_get_within, get_or_from_slice_get}
+use Rattle.std.proofs.lemmas.Option.{slice_get_within}
 use Rattle.dada_model.specs.Observation.{Observation}
-use Rattle.search_model.specs.declared.search.Search.{Search}
 use Rattle.search_model.specs.Candidates.{shard_part}
 use Rattle.search_model.specs.Observed.{candidates_of}
-use Rattle.candidate_book.specs.Book.{BookContents, book_of}
+use Rattle.candidate_book.specs.Book.{book_of}
 use Rattle.psr_base.specs.Told.{Told}
-use Rattle.ring_blocks.specs.declared.Entry.{Entry}
 use Rattle.ring_ends.specs.Ended.{sealed_at_end, cleared_at_end}
 use Rattle.dada_hdu.specs.declared.hdu.Hdu.{Hdu}
-use Rattle.stream_model.specs.Blocks.{ended_transfers, transfer_bytes, is_over}
+use Rattle.stream_model.specs.Blocks.{ended_transfers, is_over}
 use Rattle.search_engine.specs.Engine.{EngineState, SameShard, StandsForPart, StandsForData, HasSearched}
 use Rattle.disk_feeder.specs.declared.answers.FeedEnd.TheVariants.{Whole}
 use Rattle.disk_feeder.specs.Feeding.{IsEnding}
@@ -24,26 +22,24 @@ use Rattle.session_readers.specs.declared.shard.ShardActor.{ShardActor}
 use Rattle.session_readers.specs.declared.record.RecordActor.{RecordActor}
 use Rattle.search_session.specs.declared.hand.Hand.{Hand}
 use Rattle.search_session.specs.declared.ended.SessionEnd.{SessionEnd}
-use Rattle.session_readers.specs.Banks.{HasEnded, HasEngine, Stands, engines_of}
+use Rattle.session_readers.specs.Banks.{HasEnded, HasEngine, engines_of}
 use Rattle.session_readers.specs.Shards.{StandsAt, EnginesFollow, shard_cleared, shard_number, ShardOn}
 use Rattle.search_session.specs.Feeds.{FeedOn}
 use Rattle.session_readers.specs.Records.{RecordOn}
 use Rattle.search_session.specs.Hands.{HandOn, HandEnded}
 use Rattle.search_session.specs.Gathering.{recorder_of, recorder_in}
 use Rattle.search_session.specs.Stages.{IsOfBank, AreOfBanks, IsInHand}
-use Rattle.search_session.specs.Books.{HasBank, HasBook}
+use Rattle.search_session.specs.Books.{HasBank}
 use Rattle.search_session.specs.Sessions.{IsSearched, IsEndOf, data_through}
+use Rattle.search_session.proofs.Rows.{all_at}
 use Rattle.search_session.proofs.Engines.{nothing}
 use Rattle.search_session.proofs.Unfed.{none_ended, not_below_zero}
 
--- ---- what holds of all is true of one
-
-pub all_at : {A : Type 0} (P : A → Type 0) (xs : List A) (k : ℕ) (x : A) → slice_get xs k ≡ Some x → All P xs → P x
-all_at P xs k x at all = subst P (get_or_from_slice_get xs k x x at) (all k x (slice_get_within xs k x at))
+-- ---- what holds of all is true of one in a hand
 
 pub if_some : {A : Type 0} (P : A → Type 0) (slot : Option A) (x : A) → slot ≡ Some x → IfSome slot P → P x
 if_some P None x is holds = absurd cc
-if_some P (Some y) x is holds = let same : y ≡ x = cc in subst P same holds
+if_some P (Some y) x is holds = let same : y ≡ x = cc in rw same at holds
 
 module _ {I F : Type 0} where
   all_slots : (P : ShardActor → Type 0) (hands : List (Hand I F)) (x : ShardActor) →
@@ -100,9 +96,7 @@ module _ {I F : Type 0} (told : I → Told) (is_open : I → Type 0) (files_open
 
 pub none_stands : (o : Observation) (k : ℕ) (e : EngineState) → StandsForPart o [] e → StandsAt o k [] e
 none_stands o k e stands =
-    subst (λ (n : ℕ). Stands (nat_lt k n) o (transfer_bytes k []) e) (sym none_ended)
-    (subst (λ (b : Bool). Stands b o (transfer_bytes k []) e) (sym (not_below_zero k))
-    (subst (λ (l : List ℕ). StandsForPart o l e) (sym (nothing k)) stands))
+    rw (none_ended, not_below_zero k, nothing k) stands
 
 pub below_true : (a b : ℕ) → a < b → nat_lt a b ≡ true
 below_true a b less = grind (arith, nat_tests)
@@ -110,10 +104,7 @@ below_true a b less = grind (arith, nat_tests)
 -- the book of an engine that searched all data of its transfer
 book_is : (o : Observation) (bytes : List ℕ) (e f : EngineState) → SameShard f e → HasSearched o bytes f →
     f.book ≡ book_of e.search.max_candidates (shard_part e.search e.shard (candidates_of o e.search bytes))
-book_is o bytes e f same searched = searched.book
-    ∙ (ap (λ (s : Search). book_of s.max_candidates (shard_part s f.shard (candidates_of o s bytes))) same.search
-    ∙ ap (λ (k : ℕ). book_of e.search.max_candidates (shard_part e.search k (candidates_of o e.search bytes)))
-    same.shard)
+book_is o bytes e f same searched = rw (same.search, same.shard) at searched.book
 
 module _ {I F : Type 0} (hdu : Hdu) (transfers : ℕ) (banks : List (Option Bank)) (end : SessionEnd I F)
     (ending : IsEnding transfers (sealed_at_end end.blocks) end.feed) (s : ℕ) (x : ShardActor)
@@ -121,15 +112,15 @@ module _ {I F : Type 0} (hdu : Hdu) (transfers : ℕ) (banks : List (Option Bank
     (of : IsOfBank banks x) (bank : Bank) (at : HasBank banks s bank)
     (count : length (engines_of bank) ≡ transfers) where
   follow : EnginesFollow [] (shard_cleared x) (engines_of bank) (engines_of x.part)
-  follow = of bank (subst (λ (k : ℕ). slice_get banks k ≡ Some (Some bank)) (sym number) at)
+  follow = of bank (rw number at)
 
   over : is_over transfers (shard_cleared x) ≡ true
-  over = ap (λ (k : ℕ). is_over k (shard_cleared x)) (sym (follow.count ∙ count)) ∙ (sym on.over ∙ ended)
+  over = rw (follow.count, count) at (sym on.over ∙ ended)
 
   pub cleared_all : shard_cleared x ≡ sealed_at_end end.blocks
   cleared_all =
       let none = ending.once (shard_cleared x) is_end.begins.0 (sym is_end.begins.1) over in
-      sym (is_end.begins.1 ∙ (ap (λ (l : List Entry). shard_cleared x ++ l) none ∙ append-nil (shard_cleared x)))
+      sym (rw (none, append-nil) at is_end.begins.1)
 
   pub cleared_at : cleared_at_end end.blocks s ≡ sealed_at_end end.blocks
   cleared_at = is_end.cleared ∙ cleared_all
@@ -143,13 +134,10 @@ module _ {I F : Type 0} (hdu : Hdu) (transfers : ℕ) (banks : List (Option Bank
       let below : nat_lt transfer (ended_transfers (sealed_at_end end.blocks)) ≡ true =
       below_true transfer (ended_transfers (sealed_at_end end.blocks)) (omega arith) in
       let stood : StandsAt o transfer (sealed_at_end end.blocks) f.0 =
-      subst (λ (l : List Entry). StandsAt o transfer l f.0) cleared_all
-      (f.2.stands o (none_stands o transfer e stands.part)) in
-      let through : HasEnded o (data_through end transfer) f.0 =
-      subst (λ (b : Bool). Stands b o (data_through end transfer) f.0) below stood in
+      rw cleared_all at (f.2.stands o (none_stands o transfer e stands.part)) in
+      let through : HasEnded o (data_through end transfer) f.0 = rw below at stood in
       let done : HasSearched o (data_through end transfer) f.0 = through.searched (f.2.scope ∙ stands.whole) in
       record {
-        book = subst (λ (b : BookContents). HasBook end.books.items transfer s b)
-            (book_is o (data_through end transfer) e f.0 f.2.same done) (is_end.books transfer f.0 f.1);
-        spectra = λ first. is_end.spectra first transfer f.0 f.1 ∙ ap (λ (t : ℕ). Some t) done.spectra;
+        book = rw (book_is o (data_through end transfer) e f.0 f.2.same done) at (is_end.books transfer f.0 f.1);
+        spectra = λ first. rw done.spectra at (is_end.spectra first transfer f.0 f.1);
       }

@@ -1,9 +1,9 @@
 -- The engines of a shard, and blocks that it cleared one after another.
-use Rattle.std.proofs.Common.{◌≡◌, ℕ, zero, suc, List, [], Option, refl, sym, ◌∙◌, subst}
+use Rattle.std.proofs.Common.{◌≡◌, ℕ, zero, suc, List, [], Option, refl, ◌∙◌}
 use Rattle.ring_blocks.specs.declared.Entry.{Entry}
 use Rattle.stream_model.specs.Blocks.{transfer_bytes}
 use Rattle.search_engine.specs.Engine.{EngineState}
-use Rattle.session_readers.specs.Shards.{StandsAt, EnginesFollow}
+use Rattle.session_readers.specs.Shards.{EnginesFollow}
 
 pub nothing : (k : ℕ) → transfer_bytes k [] ≡ []
 unfolding transfer_bytes
@@ -22,7 +22,7 @@ follow_still xs ys engines is = record {
     record {
       same = record { search = refl; shard = refl };
       scope = refl;
-      stands = λ o stands. subst (λ (l : List Entry). StandsAt o k l f) (sym is) stands;
+      stands = λ o stands. rw is stands;
     },
   );
 }

@@ -1,7 +1,6 @@
 -- The feeder's end.
 use Rattle.std.proofs.Common.{◌≡◌, ℕ, ◌<◌, ◌≤◌, inl, inr, List, length, Option, Some, None, refl, sym, ap, ◌∙◌, subst, arith}
 use Rattle.std.specs.Prelude.{IsSome}
-use Rattle.psr_base.specs.Count.{Rose}
 use Rattle.psr_base.specs.Told.{Told}
 use Rattle.ring_blocks.specs.declared.Entry.{Entry}
 use Rattle.ring_ends.specs.Ended.{sealed_at_end}
@@ -15,7 +14,7 @@ use Rattle.disk_feeder.specs.declared.place.Place.{Place}
 use Rattle.disk_feeder.specs.History.{file_name}
 use Rattle.disk_feeder.specs.Plan.{Plan, stream_of}
 use Rattle.disk_feeder.specs.Feeder.{plan_at, names_at, headers_of, place_at, block_size, has_end, stream_at, FeederFaultless, FeederMisses, FeederUnopened, FeederSince, FeederRead}
-use Rattle.disk_feeder.specs.Feeding.{HeadersKeepUp, IsEnding, IsEnded, IsUntold, HasEndedAs, FeedsTo, SealedAs, EndIs, BreaksReading}
+use Rattle.disk_feeder.specs.Feeding.{HeadersKeepUp, IsEnding, IsEnded, IsUntold, HasEndedAs, FeedsTo, SealedAs, BreaksReading}
 use Rattle.disk_feeder.specs.Turns.{sealed_headers, sealed_blocks}
 use Rattle.disk_feeder.specs.Laws.{FeedersEnd, HeadersAreFirst, FaultsLeave}
 use Rattle.dada_recorder.specs.RecordingLaws.{RecordingsEnd}
@@ -101,18 +100,13 @@ module _ {I F : Type 0} {is_calm : I → Type 0} (laws : SessionLaws I) (told : 
   fault_left faultless failed before read =
       let now = told f.part.inputs.now in
       let calm = is_calm start.part.inputs.now in
-      subst (λ (p : Plan). BreaksReading p before calm (told end.inputs.now) at (block_size start.part)
-      (sealed_at_end end.blocks)) moved.plan
-      (subst (λ (i : I). BreaksReading (plan_at f.part) before calm (told i) at (block_size start.part)
-      (sealed_at_end end.blocks)) (sym inputs)
-      (subst (λ (z : ℕ). BreaksReading (plan_at f.part) before calm now at z (sealed_at_end end.blocks)) moved.size
-      (subst (λ (l : List Entry). BreaksReading (plan_at f.part) before calm now at (block_size f.part) l) (sym sealed)
+      rw (← moved.plan, ← moved.size, inputs, sealed)
       (of_calm (plan_at f.part) before now (FeederUnopened before now f.part) calm at (block_size f.part)
       (sealed_blocks f.pass)
       (λ was. moved.inputs.unopened was before read
       (none_unopened start.part before (told start.part.inputs.now) faultless))
       (laws.leave f.part before now (sealed_headers f.pass) (sealed_blocks f.pass) on.feeding
-      (part_end ∙ ap (λ (e : FeedEnd). Some e) failed) (moved.inputs.reads_on before read))))))
+      (rw failed at part_end) (moved.inputs.reads_on before read)))
 
   -- of calm inputs the file at which it came isn't told
   fault_missing : FeederFaultless start.part → is_calm start.part.inputs.now → end.feed ≡ ReadFault →
@@ -122,28 +116,20 @@ module _ {I F : Type 0} {is_calm : I → Type 0} (laws : SessionLaws I) (told : 
       let now = told f.part.inputs.now in
       let is : IsUntold now f.part.stream.source =
       moved.inputs.missing calm (none_missing start.part (told start.part.inputs.now) faultless)
-      (inr (part_end ∙ ap (λ (e : FeedEnd). Some e) failed)) in
-      subst (λ (under : List ℕ → Option (List ℕ)). (at.file < length (names_at start.part))
-      × ¬ IsSome (under (file_name (names_at start.part) at.file))) moved.inputs.names
-      (subst (λ (p : Plan). (at.file < length p.names) × ¬ IsSome (now.bytes_under (file_name p.names at.file)))
-      moved.plan (is.there, is.untold))
+      (inr (rw failed at part_end)) in
+      let passed : (at.file < length (names_at start.part))
+      × ¬ IsSome (now.bytes_under (file_name (names_at start.part) at.file)) =
+      subst (λ (p : Plan). (at.file < length p.names) × ¬ IsSome (now.bytes_under (file_name p.names at.file)))
+      moved.plan (is.there, is.untold) in
+      rw (← moved.inputs.names) passed
 
   all_sealed : IsEnded (plan_at start.part) (told end.inputs.now) at (block_size start.part) (sealed_headers f.pass)
       (sealed_at_end end.blocks) end.feed
-  all_sealed =
-      subst (λ (p : Plan). IsEnded p (told end.inputs.now) at (block_size start.part) (sealed_headers f.pass)
-      (sealed_at_end end.blocks) end.feed) moved.plan
-      (subst (λ (i : I). IsEnded (plan_at f.part) (told i) at (block_size start.part) (sealed_headers f.pass)
-      (sealed_at_end end.blocks) end.feed) (sym inputs)
-      (subst (λ (z : ℕ). IsEnded (plan_at f.part) (told f.part.inputs.now) at z (sealed_headers f.pass)
-      (sealed_at_end end.blocks) end.feed) moved.size
-      (subst (λ (l : List Entry). IsEnded (plan_at f.part) (told f.part.inputs.now) at (block_size f.part)
-      (sealed_headers f.pass) l end.feed) (sym sealed) part_ended)))
+  all_sealed = rw (← moved.plan, ← moved.size, inputs, sealed) part_ended
 
   pub keep_up : HeadersKeepUp (headers_of start.part) (sealed_headers f.pass) (sealed_at_end end.blocks)
   keep_up =
-      subst (λ (p : Plan). HeadersKeepUp p.headers (sealed_headers f.pass) (sealed_at_end end.blocks)) moved.plan
-      (subst (λ (l : List Entry). HeadersKeepUp (headers_of f.part) (sealed_headers f.pass) l) (sym sealed)
+      rw sealed (subst (λ (p : Plan). HeadersKeepUp p.headers (sealed_headers f.pass) (sealed_blocks f.pass)) moved.plan
       (laws.first f.part (told f.part.inputs.now) (sealed_headers f.pass) (sealed_blocks f.pass) on.feeding))
 
   pub headers_sealed : sealed_headers f.pass ≡ headers_through start.part end
@@ -168,19 +154,17 @@ module _ {I F : Type 0} {is_calm : I → Type 0} (laws : SessionLaws I) (told : 
       let count = moved.inputs.count in
       record {
         same_reference = name ∙ moved.inputs.same_reference;
-        names = ap (λ (i : I). (told i).bytes_under) inputs ∙ moved.inputs.names;
+        names = rw inputs moved.inputs.names;
         count = omega arith;
-        calm = λ was. subst is_calm (sym inputs) (moved.inputs.calm was);
-        failed = λ is. subst (λ (m : ℕ). Rose k m) (sym same) (since.end_failed (part_end ∙ ap (λ (e : FeedEnd). Some e)
-            is));
+        calm = λ was. rw inputs (moved.inputs.calm was);
+        failed = λ is. rw same (since.end_failed (rw is at part_end));
         quiet = λ other. same ∙ since.end_quiet end.feed part_end other;
         serves = λ calm holds is.
             let missing = fault_missing faultless calm is in
             missing.1 (holds at.file missing.0);
         place = at;
         missing = fault_missing faultless;
-        sealed = subst (λ (l : List Entry). IsEnded (plan_at start.part) (told end.inputs.now) at
-            (block_size start.part) l (sealed_at_end end.blocks) end.feed) headers_sealed all_sealed;
+        sealed = rw headers_sealed at all_sealed;
         broke = fault_left faultless;
         few = all_few;
         parts = λ bytes whole.
@@ -190,14 +174,14 @@ module _ {I F : Type 0} {is_calm : I → Type 0} (laws : SessionLaws I) (told : 
         walked = λ bytes whole files are k near.
             walked_data laws.transfers (stream_of (plan_at start.part) files) (block_size start.part)
             (sealed_at_end end.blocks) bytes k
-            (subst (λ (e : FeedEnd). EndIs (stream_of (plan_at start.part) files) (block_size start.part)
-            (sealed_at_end end.blocks) e) whole
-            (all_sealed.known files (record { count = are.count; each = λ j there needed. are.each j there }))) near;
+            (rw whole at (all_sealed.known files (record {
+              count = are.count;
+              each = λ j there needed. are.each j there;
+            }))) near;
       }
 
   pub is_ending : IsEnding (length (plan_at start.part).starts) (sealed_at_end end.blocks) end.feed
   is_ending =
-      subst (λ (p : Plan). IsEnding (length p.starts) (sealed_at_end end.blocks) end.feed) moved.plan
-      (subst (λ (l : List Entry). IsEnding (length (plan_at f.part).starts) l end.feed) (sym sealed)
+      rw sealed (subst (λ (p : Plan). IsEnding (length p.starts) (sealed_blocks f.pass) end.feed) moved.plan
       (laws.end f.part (told f.part.inputs.now) (sealed_headers f.pass) (sealed_blocks f.pass) end.feed on.feeding
       part_end))

@@ -27,18 +27,17 @@ writes_more : (n m : ℕ) (p q r : HduWriter) (a b c : Option FeedEnd) → Write
     Writes (n + m) p a r c
 unfolding Writes
 writes_more n zero p q r a b c first second =
-    subst (λ (k : ℕ). Writes k p a r c) (let same : n ≡ n + 0 = omega arith in same)
-    (subst (λ (w : HduWriter). Writes n p a w c) (sym second.0)
-    (subst (λ (end : Option FeedEnd). Writes n p a q end) (sym second.1) first))
+    let same : n + 0 ≡ n = omega arith in
+    rw (same, second.0, second.1) first
 writes_more n (suc m) p q r a b c first second =
     subst (λ (k : ℕ). Writes k p a r c) (let same : suc (n + m) ≡ n + suc m = omega arith in same)
     (second.0, writes_more n m p q second.0 a b None first second.1, second.2)
 
 -- ---- turns
 
-some_not_none : (end : Option FeedEnd) → IsSome end → end ≡ None → ⊥
+pub some_not_none : {A : Type 0} (slot : Option A) → IsSome slot → slot ≡ None → ⊥
 some_not_none None some none = cc
-some_not_none (Some e) some none = cc
+some_not_none (Some x) some none = cc
 
 module _ {I : Type 0} (told : I → Told) (is_calm : I → Type 0) (faults : I → ℕ) where
   keeps_itself : (f : FeedActor I) → InputsKept told is_calm faults f f
@@ -119,7 +118,7 @@ module _ {I : Type 0} (told : I → Told) (is_calm : I → Type 0) (faults : I �
     turns = turns;
     writes = one_write f.pass h.pass f.end h.end running (record {
       answer = answer;
-      did = subst (λ (end : Option FeedEnd). TurnAnswers f.pass h.pass end answer) (sym is) did;
+      did = rw is did;
     });
   }
 
@@ -147,15 +146,8 @@ module _ {I : Type 0} (told : I → Told) (is_calm : I → Type 0) (faults : I �
       }
     where
       stays_some : IsSome f.end → IsSome g.end
-      stays_some ended = subst (λ (e : Option FeedEnd). IsSome e) (sym (a.stays ended)) ended
+      stays_some ended = rw (a.stays ended) ended
 
       all_made : (e : Option FeedEnd) → g.end ≡ e → h.end ≡ None → a.made + b.made ≡ n + m
       all_made None is on = let all_a = a.all is in let all_b = b.all on in omega arith
-      all_made (Some e) is on = absurd (some_not_none h.end
-          (subst (λ (x : Option FeedEnd). IsSome x) (sym (b.stays (some_of is) ∙ is)) (some_is e)) on)
-        where
-          some_is : (e : FeedEnd) → IsSome (Some e)
-          some_is e = search rules
-
-          some_of : g.end ≡ Some e → IsSome g.end
-          some_of same = subst (λ (x : Option FeedEnd). IsSome x) (sym same) (some_is e)
+      all_made (Some e) is on = let same = sym on ∙ b.stays (rw is (search rules)) ∙ is in absurd cc

@@ -1,20 +1,16 @@
 -- The passes of shards that ended, and of a recorder after them, are all readers of the rings.
-use Rattle.std.proofs.Common.{◌≡◌, ℕ, ◌<◌, List, [], ◌∷◌, length, length-append, Option, Some, None, slice_get, option_map, refl, sym, ap, ◌∙◌, subst, arith}
-use Rattle.std.specs.Prelude.{IfSome}
+use Rattle.std.proofs.Common.{◌≡◌, ℕ, ◌<◌, List, [], ◌∷◌, length, length-append, Option, Some, None, slice_get, option_map, refl, sym, ◌∙◌, arith}
 use Rattle.std.proofs.lemmas.List.{length-map}
 use Rattle.std.proofs.lemmas.Option.{slice_get-map, slice_get_within}
 use mathlib.Core.Logic.{dite}
 use native.Mathlib.Decide.{ℕ_discrete}
-use Rattle.ring_words.specs.declared.views.ReaderView.{ReaderView}
 use Rattle.ring_words.specs.Ring.{Begins}
-use Rattle.ring_blocks.specs.declared.Entry.{Entry}
 use Rattle.ring_ends.specs.declared.ring.Ring.{Ring}
 use Rattle.ring_ends.specs.declared.passes.WriterPass.{WriterPass}
 use Rattle.ring_ends.specs.declared.passes.EndedReader.{EndedReader}
 use Rattle.ring_ends.specs.declared.finished.Finished.{Finished}
-use Rattle.ring_ends.specs.Counted.{cleared_of}
 use Rattle.ring_ends.specs.Passes.{ring_shape, ended_knows}
-use Rattle.ring_ends.specs.Ended.{sealed_at_end, reader_at_end, cleared_at_end}
+use Rattle.ring_ends.specs.Ended.{sealed_at_end, cleared_at_end}
 use Rattle.dada_hdu.specs.declared.hdu.Hdu.{Hdu}
 use Rattle.dada_hdu.specs.declared.ended.HduEnded.{HduEnded}
 use Rattle.dada_hdu.specs.Passes.{header_ring, data_ring, header_end, data_end, number_of, EndedFromBoth}
@@ -25,19 +21,19 @@ use Rattle.session_readers.specs.Shards.{shard_cleared, shard_number}
 use Rattle.session_readers.specs.Records.{recorded_headers, recorded_blocks}
 use Rattle.search_session.specs.Books.{HasBank, HaveEngines, passes_of, banks_of}
 use Rattle.search_session.specs.Ends.{passes_with, recorder_passes, ReadsLast, AreDone}
-use Rattle.search_session.proofs.Rows.{longer, at_end}
+use Rattle.search_session.proofs.Rows.{one_at, longer, at_end}
 
 -- ---- what is at a place
 
 gives_pass : (shards : List (Option ShardActor)) (s : ℕ) (x : ShardActor) → slice_get shards s ≡ Some (Some x) →
     GivesBoth (passes_of shards) s x.pass
 gives_pass shards s x at = slice_get-map (option_map (λ (y : ShardActor). y.pass)) shards s
-    ∙ ap (option_map (option_map (λ (y : ShardActor). y.pass))) at
+    ∙ rw at refl
 
 pub gives_bank : (shards : List (Option ShardActor)) (s : ℕ) (x : ShardActor) → slice_get shards s ≡ Some (Some x) →
     HasBank (banks_of shards) s x.part
 gives_bank shards s x at = slice_get-map (option_map (λ (y : ShardActor). y.part)) shards s
-    ∙ ap (option_map (option_map (λ (y : ShardActor). y.part))) at
+    ∙ rw at refl
 
 -- as many passes as shards
 pub pass_count : (shards : List (Option ShardActor)) → length (passes_of shards) ≡ length shards
@@ -52,8 +48,7 @@ module _ {F : Type 0} where
   gives_last : (shards : List (Option ShardActor)) (recorder : Option (RecordActor F)) (x : RecordActor F) →
       recorder ≡ Some x → GivesBoth (passes_with shards recorder) (length shards) x.pass
   gives_last shards recorder x is =
-      ap (λ (r : Option (RecordActor F)). slice_get (passes_with shards r) (length shards)) is
-      ∙ at_end (passes_of shards) (Some x.pass) (length shards) (pass_count shards)
+      rw is (at_end (passes_of shards) (Some x.pass) (length shards) (pass_count shards))
 
   -- a place among the passes is that of a shard, or the last
   each_pass : (hdu : Hdu) (transfers : ℕ) (shards : List (Option ShardActor)) (recorder : Option (RecordActor F)) →
@@ -67,7 +62,7 @@ module _ {F : Type 0} where
   each_pass hdu transfers shards (Some x) done j near = dite (ℕ_discrete j (length shards))
       (λ same. (
         x.pass,
-        ap (λ (k : ℕ). slice_get (passes_with shards (Some x)) k) same ∙ gives_last shards (Some x) x refl,
+        rw same (gives_last shards (Some x) x refl),
         done.last.reads,
         done.last.number ∙ sym same,
       ))
@@ -83,11 +78,10 @@ module _ (ring : Ring) (writer : WriterPass) (part : HduEnded → EndedReader) (
     (f : Finished) (end : RingFinished ring writer part readers f) (j : ℕ) (e : HduEnded)
     (gives : GivesBoth readers j e) (number : (ended_knows (part e)).number ≡ j) where
   known_cleared : cleared_at_end f j ≡ (ended_knows (part e)).cleared
-  known_cleared = ap (λ (r : Option ReaderView). cleared_of r)
-      (ap (λ (k : ℕ). reader_at_end f k) (sym number) ∙ end.known j e gives)
+  known_cleared = rw (rw number at (end.known j e gives)) refl
 
   known_begins : j < (ring_shape ring).readers → Begins (ended_knows (part e)).cleared (sealed_at_end f)
-  known_begins near = subst (λ (l : List Entry). Begins l (sealed_at_end f)) known_cleared (end.begins j near)
+  known_begins near = rw known_cleared at (end.begins j near)
 
 -- ---- shards and a recorder
 
@@ -109,11 +103,7 @@ module _ {F : Type 0} (hdu : Hdu) (transfers : ℕ) (shards : List (Option Shard
       number_is : shard_number x ≡ s
       number_is =
           let h = done.each s (slice_get_within shards s (Some x) at) in
-          let same : h.0 ≡ x = inside h.0 x (sym h.1 ∙ at) in
-          ap (λ (y : ShardActor). shard_number y) (sym same) ∙ h.2.number
-        where
-          inside : (a b : ShardActor) → Some (Some a) ≡ Some (Some b) → a ≡ b
-          inside a b e = cc
+          rw (one_at shards s h.0 x h.1 at) at h.2.number
 
       pub cleared_is : cleared_at_end f s ≡ shard_cleared x
       cleared_is = known_cleared (data_ring hdu) writer data_end (passes_with shards recorder) f end s x.pass
@@ -129,7 +119,7 @@ module _ {F : Type 0} (hdu : Hdu) (transfers : ℕ) (shards : List (Option Shard
 
     module _ (x : RecordActor F) (is : recorder ≡ Some x) where
       pub last_reads : ReadsLast hdu (length shards) x
-      last_reads = subst (λ (r : Option (RecordActor F)). IfSome r (ReadsLast hdu (length shards))) is done.last
+      last_reads = rw is at done.last
 
       within : length shards < length (passes_with shards recorder)
       within = slice_get_within (passes_with shards recorder) (length shards) (Some x.pass)

@@ -1,5 +1,5 @@
 -- Turns of a hand that follow one another.
-use Rattle.std.proofs.Common.{◌≡◌, ℕ, ◌+◌, ◌<◌, ◌≤◌, List, length, Option, Some, None, slice_index_or, slice_set, get_or, refl, sym, ◌∙◌, subst, arith}
+use Rattle.std.proofs.Common.{◌≡◌, ℕ, ◌+◌, ◌<◌, ◌≤◌, List, length, Option, Some, None, slice_index_or, slice_set, get_or, refl, ◌∙◌, arith}
 use Rattle.std.specs.Prelude.{All, IfSome}
 use Rattle.std.proofs.lemmas.List.{length-set, get_or-set_same, get_or-set_other}
 use Rattle.std.proofs.lemmas.List.Elements.{at_read}
@@ -35,12 +35,9 @@ module _ {A : Type 0} (R : A → A → Type 0) where
   first_more xs ys n old new near first is moved = record {
     count = length-set ys n new ∙ first.count;
     moved = λ k d before within. dite (ℕ_discrete k n)
-        (λ same. subst (λ (j : ℕ). R (slice_index_or xs j d) (slice_index_or (slice_set ys n new) j d)) (sym same)
-        (subst (λ (y : A). R (slice_index_or xs n d) y) (sym (get_or-set_same ys n new d near))
-        (subst (λ (x : A). R x new) (first.ahead n d (omega arith)) (at_read ys (λ x. R x new) n old near is moved
-        d))))
-        (λ other. subst (λ (y : A). R (slice_index_or xs k d) y) (sym (get_or-set_other ys n k new d other))
-        (first.moved k d (omega arith) within));
+        (λ same. rw (same, get_or-set_same ys n new d near) (rw (first.ahead n d (omega arith)) at
+        (at_read ys (λ x. R x new) n old near is moved d)))
+        (λ other. rw (get_or-set_other ys n k new d other) (first.moved k d (omega arith) within));
     ahead = λ k d after.
         let other : (k ≡ n) → ⊥ = λ same. absurd (omega arith) in
         get_or-set_other ys n k new d other ∙ first.ahead k d (omega arith);
@@ -67,9 +64,8 @@ module _ {A : Type 0} (P : A → Type 0) where
   are_more xs n new near first is = λ k d before within.
       let count = length-set xs n new in
       dite (ℕ_discrete k n)
-      (λ same. subst (λ (j : ℕ). P (slice_index_or (slice_set xs n new) j d)) (sym same)
-      (subst P (sym (get_or-set_same xs n new d near)) is))
-      (λ other. subst P (sym (get_or-set_other xs n k new d other)) (first k d (omega arith) (omega arith)))
+      (λ same. rw (same, get_or-set_same xs n new d near) is)
+      (λ other. rw (get_or-set_other xs n k new d other) (first k d (omega arith) (omega arith)))
 
   pub are_all : (xs : List A) (n : ℕ) → length xs ≤ n → FirstAre P n xs → All P xs
   are_all xs n all first = λ k d near. first k d (omega arith) near

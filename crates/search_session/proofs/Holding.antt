@@ -1,10 +1,10 @@
 -- The books of a session hold what is found, as lists.
-use Rattle.std.proofs.Common.{◌≡◌, ℕ, ◌<◌, List, [], length, get_or, Option, Some, slice_get, option_map, refl, sym, ap, ◌∙◌, subst, arith}
+use Rattle.std.proofs.Common.{◌≡◌, ℕ, ◌<◌, List, [], length, get_or, Option, Some, slice_get, refl, sym, ◌∙◌, arith}
 use Rattle.std.specs.Prelude.{map}
 use Rattle.std.specs.List.{range_with_len}
 use Rattle.std.proofs.lemmas.List.{length-map, same_lists}
 use Rattle.std.proofs.lemmas.List.FromFn.{get_or-map-range_with_len, length-map-range_with_len}
-use Rattle.std.proofs.lemmas.Option.{slice_get-map, get_or_from_slice_get}
+use Rattle.std.proofs.lemmas.Option.{slice_get-map, get_or_from_slice_get, same_Some}
 use Rattle.std.proofs.lemmas.Simd.{map-map}
 use Rattle.arrayvec.specs.ArrayVec.{ArrayVec}
 use Rattle.dada_model.specs.Observation.{Observation}
@@ -20,7 +20,7 @@ use Rattle.search_session.specs.declared.ended.SessionEnd.{SessionEnd}
 use Rattle.session_readers.specs.Banks.{HasEngine, engines_of}
 use Rattle.search_session.specs.Books.{HasBank, HasBook, AreCounted}
 use Rattle.search_session.specs.Sessions.{data_through, IsSearched, AreBanksFor, shard_books, HoldFound}
-use Rattle.search_session.proofs.Ending.{all_at}
+use Rattle.search_session.proofs.Rows.{all_at}
 use Rattle.search_session.proofs.Taking.{some_searched}
 
 -- the book of a shard's part of a list
@@ -35,10 +35,9 @@ book_count settings list =
 book_there : (settings : Search) (list : List Candidate) (s : ℕ) (d : Option BookContents) → s < settings.shards →
     get_or (shard_books settings list) s d ≡ part_book settings list s
 book_there settings list s d near =
-    ap (λ (l : List (Option BookContents)). get_or l s d)
-    (map-map (λ part. Some (book_of settings.max_candidates part)) (λ k. shard_part settings k list)
+    rw (map-map (λ part. Some (book_of settings.max_candidates part)) (λ k. shard_part settings k list)
     (range_with_len 0 settings.shards))
-    ∙ get_or-map-range_with_len (part_book settings list) 0 settings.shards s s d near (omega arith)
+    (get_or-map-range_with_len (part_book settings list) 0 settings.shards s s d near (omega arith))
 
 module _ {I F : Type 0} (transfers : ℕ) (banks : List (Option Bank)) (end : SessionEnd I F)
     (counted : AreCounted (length banks) transfers end.books.items end.spectra.items)
@@ -58,12 +57,7 @@ module _ {I F : Type 0} (transfers : ℕ) (banks : List (Option Bank)) (end : Se
       let bank = h.0 in
       let e = h.2.0 in
       let is = (searched k s bank e (o k) h.1 h.2.1 h.2.3).book in
-      subst (λ (bytes : List ℕ). HasBook end.books.items k s (book_of settings.max_candidates
-      (shard_part settings s (candidates_of (o k) settings bytes)))) (same k below)
-      (subst (λ (n : ℕ). HasBook end.books.items k s (book_of settings.max_candidates
-      (shard_part settings n (candidates_of (o k) settings (data_through end k))))) h.2.2.shard_is
-      (subst (λ (q : Search). HasBook end.books.items k s (book_of q.max_candidates
-      (shard_part q e.shard (candidates_of (o k) q (data_through end k))))) h.2.2.search_is is))
+      rw (same k below, h.2.2.shard_is, h.2.2.search_is) at is
 
   -- a row has the books of all shards
   row_is : (k : ℕ) → k < transfers → (row : ArrayVec (Option BookContents)) → slice_get end.books.items k ≡ Some row →
@@ -76,13 +70,10 @@ module _ {I F : Type 0} (transfers : ℕ) (banks : List (Option Bank)) (end : Se
       counted.shards_count in
       same_lists row.items (shard_books settings (list_at k)) (omega arith) (λ s d near.
       let h = at_place s k (omega arith) below in
-      let this : h.0 ≡ row = inside h.0 row (sym h.1 ∙ at) in
+      let this : h.0 ≡ row = same_Some h.0 row (sym h.1 ∙ at) in
       get_or_from_slice_get row.items s (part_book settings (list_at k) s) d
-      (ap (λ (r : ArrayVec (Option BookContents)). slice_get r.items s) (sym this) ∙ h.2)
+      (rw this at h.2)
       ∙ sym (book_there settings (list_at k) s d (omega arith)))
-    where
-      inside : (a b : ArrayVec (Option BookContents)) → Some a ≡ Some b → a ≡ b
-      inside a b e = cc
 
   abbrev items_of : ArrayVec (Option BookContents) → List (Option BookContents)
   items_of row = row.items
@@ -101,7 +92,7 @@ module _ {I F : Type 0} (transfers : ℕ) (banks : List (Option Bank)) (end : Se
       same_lists rows (map all (range_with_len 0 transfers)) (omega arith) (λ k d near.
       let below : k < transfers = omega arith in
       let h = at_place 0 k opened.some below in
-      get_or_from_slice_get rows k (items_of h.0) d (slice_get-map items_of books k ∙ ap (option_map items_of) h.1)
+      get_or_from_slice_get rows k (items_of h.0) d (slice_get-map items_of books k ∙ rw h.1 refl)
       ∙ row_is k below h.0 h.1
       ∙ sym (get_or-map-range_with_len all 0 transfers k k d below (omega arith)))
 
@@ -116,7 +107,7 @@ module _ {I F : Type 0} (transfers : ℕ) (banks : List (Option Bank)) (end : Se
       let h = opened.each 0 k opened.some below in
       let is = (searched k 0 h.0 h.2.0 (o k) h.1 h.2.1 h.2.3).spectra refl in
       get_or_from_slice_get spectra k (all k) d
-      (is ∙ ap (λ (bytes : List ℕ). Some (filterbank_of (o k) bytes).spectra) (same k below))
+      (rw (same k below) at is)
       ∙ sym (get_or-map-range_with_len all 0 transfers k k d below (omega arith)))
 
   pub held_found : HoldFound settings o found transfers end

@@ -1,10 +1,9 @@
 -- The end of a lone session.
-use Rattle.std.proofs.Common.{◌≡◌, ℕ, zero, suc, ◌<◌, Bool, true, List, [], ◌∷◌, ◌++◌, length, Option, Some, None, slice_get, refl, sym, ap, ◌∙◌, subst, arith}
+use Rattle.std.proofs.Common.{◌≡◌, ℕ, zero, suc, ◌<◌, true, [], ◌∷◌, length, Some, None, slice_get, refl, sym, ◌∙◌, arith}
 use Rattle.std.specs.Prelude.{⊤, nat_lt}
 use Rattle.std.proofs.lemmas.List.{append-nil}
 use Rattle.std.proofs.lemmas.Option.{slice_get_within}
 use Rattle.psr_base.specs.Told.{Told}
-use Rattle.ring_blocks.specs.declared.Entry.{Entry}
 use Rattle.ring_ends.specs.Ended.{sealed_at_end}
 use Rattle.dada_hdu.specs.declared.hdu.Hdu.{Hdu}
 use Rattle.dada_hdu.specs.Passes.{data_shape}
@@ -13,17 +12,17 @@ use Rattle.search_engine.specs.Engine.{EngineState}
 use Rattle.disk_feeder.specs.declared.answers.FeedEnd.TheVariants.{Whole}
 use Rattle.disk_feeder.specs.Feeding.{IsEnding}
 use Rattle.disk_feeder.specs.Resting.{feeder_over}
-use Rattle.session_readers.specs.declared.bank.Bank.{Bank}
 use Rattle.session_readers.specs.declared.shard.ShardActor.{ShardActor}
 use Rattle.search_session.specs.declared.lone.LoneSession.{LoneSession}
 use Rattle.search_session.specs.declared.lone.LoneEnd.{LoneEnd}
-use Rattle.session_readers.specs.Banks.{HasEngine, Stands, engines_of}
-use Rattle.session_readers.specs.Shards.{StandsAt, IsEngineAt, EnginesFollow, shard_cleared, shard_number, ShardOn}
+use Rattle.session_readers.specs.Banks.{HasEngine, engines_of}
+use Rattle.session_readers.specs.Shards.{IsEngineAt, EnginesFollow, shard_cleared, shard_number, ShardOn}
 use Rattle.search_session.specs.Feeds.{FeedOn}
 use Rattle.search_session.specs.Ends.{IsDone, AreDone}
 use Rattle.search_session.specs.Sessions.{FeedAnswers}
 use Rattle.search_session.specs.Lone.{feed_over, lone_feeder, lone_bank, transfers_at, LoneOn, LoneMoved, LoneBegins, HasLoneEnded}
 use Rattle.search_session.specs.LoneEnds.{IsLoneEnd, session_end, WentThrough, BankAnswers, LoneAnswers}
+use Rattle.search_session.proofs.Rows.{one_at}
 use Rattle.search_session.proofs.Ending.{none_stands, below_true}
 use Rattle.search_session.proofs.FeedEnds.{SessionLaws, feed_answers, is_ending}
 use Rattle.search_session.proofs.LoneTurns.{feed_on}
@@ -41,14 +40,6 @@ one_done hdu x alone number on ended = record {
         × IsDone hdu (length (engines_of x.part)) s y
     at zero near = (x, refl, record { number = number; on = on; ended = ended; count = refl })
     at (suc s) near = absurd (omega arith)
-
--- an engine at a place is the one that is known of
-same_engine : (engines : List (Option EngineState)) (k : ℕ) (e f : EngineState) → HasEngine engines k e →
-    HasEngine engines k f → e ≡ f
-same_engine engines k e f at_e at_f = inside e f (sym at_e ∙ at_f)
-  where
-    inside : (a b : EngineState) → Some (Some a) ≡ Some (Some b) → a ≡ b
-    inside a b e = cc
 
 module _ {I : Type 0} {is_calm : I → Type 0} (laws : SessionLaws I) (told : I → Told) (faults : I → ℕ)
     (start now : LoneSession) (before after : I) (n : ℕ) (end : LoneEnd) (begins : LoneBegins (told before) start)
@@ -71,18 +62,15 @@ module _ {I : Type 0} {is_calm : I → Type 0} (laws : SessionLaws I) (told : I 
 
   follow : EnginesFollow [] (shard_cleared now.shard) (engines_of (lone_bank start))
       (engines_of now.shard.part)
-  follow = subst (λ (l : List Entry). EnginesFollow l (shard_cleared now.shard) (engines_of (lone_bank start))
-      (engines_of now.shard.part)) begins.unread moved.shard.engines
+  follow = rw begins.unread at moved.shard.engines
 
   over : is_over (transfers_at (lone_feeder start)) (shard_cleared now.shard) ≡ true
-  over = ap (λ (k : ℕ). is_over k (shard_cleared now.shard)) (sym (follow.count ∙ begins.engines))
-      ∙ (sym on.shard.over ∙ ended.shard)
+  over = rw (follow.count, begins.engines) at (sym on.shard.over ∙ ended.shard)
 
   cleared_all : shard_cleared now.shard ≡ sealed_at_end end.blocks
   cleared_all =
       let none = ending.once (shard_cleared now.shard) is.begins.0 (sym is.begins.1) over in
-      sym (is.begins.1 ∙ (ap (λ (l : List Entry). shard_cleared now.shard ++ l) none
-      ∙ append-nil (shard_cleared now.shard)))
+      sym (rw (none, append-nil) at is.begins.1)
 
   went : (bytes : ℕ) → end.feed ≡ Whole bytes → (transfer : ℕ) (e : EngineState) →
       HasEngine (engines_of (lone_bank start)) transfer e →
@@ -97,11 +85,9 @@ module _ {I : Type 0} {is_calm : I → Type 0} (laws : SessionLaws I) (told : I 
       let below : nat_lt transfer (ended_transfers (sealed_at_end end.blocks)) ≡ true =
       below_true transfer (ended_transfers (sealed_at_end end.blocks)) (omega arith) in
       let there = on.shard.engines transfer (omega arith) in
-      let this = same_engine (engines_of now.shard.part) transfer there.0 f.0 there.1 f.1 in
+      let this = one_at (engines_of now.shard.part) transfer there.0 f.0 there.1 f.1 in
       let at : IsEngineAt (data_shape now.hdu).size (sealed_at_end end.blocks) transfer f.0 =
-      subst (λ (l : List Entry). IsEngineAt (data_shape now.hdu).size l transfer f.0) cleared_all
-      (subst (λ (g : EngineState). IsEngineAt (data_shape now.hdu).size (shard_cleared now.shard) transfer g) this
-      there.2) in (
+      rw (cleared_all, this) at there.2 in (
         f.0,
         f.1,
         record {
@@ -110,23 +96,15 @@ module _ {I : Type 0} {is_calm : I → Type 0} (laws : SessionLaws I) (told : I 
           fed = at.fed;
           ended = at.ended ∙ below;
           stands = λ o stood.
-              subst (λ (b : Bool). Stands b o (transfer_bytes transfer (sealed_at_end end.blocks)) f.0) below
-              (subst (λ (l : List Entry). StandsAt o transfer l f.0) cleared_all
-              (f.2.stands o (none_stands o transfer e stood)));
+              rw (cleared_all, below) at (f.2.stands o (none_stands o transfer e stood));
         },
       )
 
   bank_is : BankAnswers (lone_bank start) end
   bank_is = record {
     cleared = is.cleared ∙ cleared_all;
-    engines = subst (λ (l : Bank). EnginesFollow [] (sealed_at_end end.blocks)
-        (engines_of (lone_bank start)) (engines_of l)) (sym is.bank)
-        (subst (λ (l : List Entry). EnginesFollow [] l (engines_of (lone_bank start))
-        (engines_of now.shard.part)) cleared_all follow);
-    searched = subst (λ (l : Bank). (bytes : ℕ) → end.feed ≡ Whole bytes → (transfer : ℕ) (e : EngineState) →
-        HasEngine (engines_of (lone_bank start)) transfer e →
-        (f : EngineState) × HasEngine (engines_of l) transfer f
-        × WentThrough e (transfer_bytes transfer (sealed_at_end end.blocks)) f) (sym is.bank) went;
+    engines = rw (is.bank, ← cleared_all) follow;
+    searched = rw is.bank went;
   }
 
   pub lone_answers : LoneAnswers told is_calm faults start before after end

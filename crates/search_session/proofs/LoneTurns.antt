@@ -1,5 +1,5 @@
 -- Turns of a lone session.
-use Rattle.std.proofs.Common.{◌≡◌, ℕ, ◌+◌, ◌-◌, ◌≤◌, refl, ap, ◌∙◌, subst, arith}
+use Rattle.std.proofs.Common.{◌≡◌, ℕ, ◌+◌, ◌-◌, ◌≤◌, refl, ap, ◌∙◌, arith}
 use Rattle.psr_base.specs.Told.{Told}
 use Rattle.dada_hdu.specs.declared.hdu.Hdu.{Hdu}
 use Rattle.dada_hdu.specs.declared.passes.HduReader.{HduReader}
@@ -63,5 +63,4 @@ module _ {I : Type 0} (told : I → Told) (is_open is_calm : I → Type 0) (faul
       LoneMoved told is_calm faults n before x after y → LoneMoved told is_calm faults m before x after y
   lone_rest n m before after x y most on ended moved =
       let all : n + (m - n) ≡ m = omega arith in
-      subst (λ (k : ℕ). LoneMoved told is_calm faults k before x after y) all
-      (lone_more n (m - n) before after after x y y moved (lone_still (m - n) after y on ended))
+      rw all at (lone_more n (m - n) before after after x y y moved (lone_still (m - n) after y on ended))

@@ -1,5 +1,5 @@
 -- Reads that follow one another.
-use Rattle.std.proofs.Common.{◌≡◌, ℕ, zero, suc, ◌+◌, Bool, true, false, List, [], ◌++◌, refl, sym, ap, ◌∙◌, append_assoc, subst, arith}
+use Rattle.std.proofs.Common.{◌≡◌, ℕ, zero, suc, ◌+◌, Bool, true, false, List, [], ◌++◌, refl, sym, ◌∙◌, append_assoc, arith}
 use Rattle.std.proofs.lemmas.List.{append-nil}
 use Rattle.ring_blocks.specs.declared.Entry.{Entry}
 use Rattle.ring_words.specs.declared.views.ReaderView.{ReaderView}
@@ -14,7 +14,7 @@ begins_itself xs = ([], sym (append-nil xs))
 
 pub begins_more : (xs ys zs : List Entry) → Begins xs ys → Begins ys zs → Begins xs zs
 begins_more xs ys zs a b =
-    (a.0 ++ b.0, b.1 ∙ (ap (λ (l : List Entry). l ++ b.0) a.1 ∙ append_assoc xs a.0 b.0))
+    (a.0 ++ b.0, b.1 ∙ rw a.1 (append_assoc xs a.0 b.0))
 
 -- ---- no read
 
@@ -80,7 +80,8 @@ module _ (Goes : HduEnded → Type 0) where
       Reads Goes n p q → Reads Then m q r → Reads Goes (n + m) p r
   unfolding Reads
   reads_more Then goes n zero p q r first second =
-      subst (λ (k : ℕ). Reads Goes k p r) (let same : n ≡ n + 0 = omega arith in same) (reads_rest n p q r first second)
+      let same : n ≡ n + 0 = omega arith in
+      rw same at (reads_rest n p q r first second)
   reads_more Then goes n (suc m) p q r first second =
-      subst (λ (k : ℕ). Reads Goes k p r) (let same : suc (n + m) ≡ n + suc m = omega arith in same)
-      (second.0, reads_more Then goes n m p q second.0 first second.1, goes second.0 second.2, second.3)
+      let same : n + suc m ≡ suc (n + m) = omega arith in
+      rw same (second.0, reads_more Then goes n m p q second.0 first second.1, goes second.0 second.2, second.3)

@@ -1,10 +1,9 @@
 -- Turns that follow one another, of shards and of slots.
-use Rattle.std.proofs.Common.{◌≡◌, ℕ, ◌+◌, ◌<◌, ◌^◌, min, Bool, true, false, List, length, Option, Some, None, slice_index_or, refl, sym, ap, ◌∙◌, arith}
+use Rattle.std.proofs.Common.{◌≡◌, ℕ, ◌+◌, ◌<◌, ◌^◌, min, Bool, true, false, List, length, Option, Some, None, slice_index_or, refl, sym, ◌∙◌, arith}
 use Rattle.ring_core.specs.Machine.{greatest}
 use Rattle.dada_hdu.specs.Passes.{tries_of}
-use Rattle.stream_model.specs.Blocks.{is_over}
 use Rattle.session_readers.specs.declared.shard.ShardActor.{ShardActor}
-use Rattle.session_readers.specs.Reads.{data_view, HasMore}
+use Rattle.session_readers.specs.Reads.{HasMore}
 use Rattle.session_readers.specs.Shards.{shard_cleared, ShardMoved}
 use Rattle.search_session.specs.Hands.{SlotMoved, EachMoved}
 use Rattle.search_session.proofs.ManyReads.{begins_itself, begins_more, rested_itself, no_reads, reads_more}
@@ -36,10 +35,7 @@ pub shard_none : (x : ShardActor) → x.turns < 2 ^ 64 → ShardMoved 0 x x
 shard_none x small = stands 0 x small (λ running. refl)
 
 pub shard_still : (n : ℕ) (x : ShardActor) → x.turns < 2 ^ 64 → x.ended ≡ true → ShardMoved n x x
-shard_still n x small ended = stands n x small (λ running. absurd (apart (x.ended) ended running))
-  where
-    apart : (b : Bool) → b ≡ true → b ≡ false → ⊥
-    apart b t f = cc
+shard_still n x small ended = stands n x small (λ running. let both = sym ended ∙ running in absurd cc)
 
 pub shard_more : (n m : ℕ) (x y z : ShardActor) → ShardMoved n x y → ShardMoved m y z → ShardMoved (n + m) x z
 shard_more n m x y z a b =
@@ -58,7 +54,7 @@ shard_more n m x y z a b =
       stays = λ ended. b.stays (a.stays ended);
       turns = omega arith;
       reads = reads_more (HasMore (length (engines_of x.part))) (HasMore (length (engines_of y.part)))
-          (λ p more. ap (λ (n : ℕ). is_over n (data_view p).cleared) (sym a.engines.count) ∙ more)
+          (λ p more. rw a.engines.count at more)
           a.made b.made x.pass y.pass z.pass a.reads b.reads;
       tries = omega arith;
       grown = begins_more (shard_cleared x) (shard_cleared y) (shard_cleared z) a.grown b.grown;
@@ -66,23 +62,18 @@ shard_more n m x y z a b =
           (engines_of y.part) (engines_of z.part) a.engines b.engines;
     }
   where
-    apart : (c : Bool) → c ≡ true → c ≡ false → ⊥
-    apart c t f = cc
-
     all_made : (c : Bool) → y.ended ≡ c → z.ended ≡ false → a.made + b.made ≡ n + m
-    all_made true is on = absurd (apart z.ended (b.stays is) on)
+    all_made true is on = let both = sym (b.stays is) ∙ on in absurd cc
     all_made false is on = let all_a = a.all is in let all_b = b.all on in omega arith
 
 -- ---- slots
 
 module _ {A : Type 0} (R S T : A → A → Type 0) (both : (x y z : A) → R x y → S y z → T x z) where
   pub slot_more : (a b c : Option A) → SlotMoved R a b → SlotMoved S b c → SlotMoved T a c
-  slot_more None None None first second = tt
-  slot_more None None (Some z) first second = second
+  slot_more (Some x) (Some y) (Some z) first second = both x y z first second
   slot_more None (Some y) c first second = absurd first
   slot_more (Some x) None c first second = absurd first
-  slot_more (Some x) (Some y) None first second = second
-  slot_more (Some x) (Some y) (Some z) first second = both x y z first second
+  slot_more a b c first second = second
 
   pub each_more : (xs ys zs : List A) → EachMoved R xs ys → EachMoved S ys zs → EachMoved T xs zs
   each_more xs ys zs first second = record {

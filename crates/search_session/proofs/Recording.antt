@@ -1,5 +1,5 @@
 -- Turns of a recorder that follow one another.
-use Rattle.std.proofs.Common.{◌≡◌, ℕ, ◌+◌, ◌<◌, ◌^◌, min, Option, Some, None, refl, sym, ◌∙◌, subst, arith, rules}
+use Rattle.std.proofs.Common.{◌≡◌, ℕ, ◌+◌, ◌<◌, ◌^◌, min, Option, Some, None, refl, sym, ◌∙◌, arith, rules}
 use Rattle.std.specs.Prelude.{IsSome}
 use Rattle.psr_base.specs.Made.{FilesSeen}
 use Rattle.ring_core.specs.Machine.{greatest}
@@ -7,11 +7,8 @@ use Rattle.dada_hdu.specs.Passes.{tries_of}
 use Rattle.dada_recorder.specs.declared.answers.RecordEnd.{RecordEnd}
 use Rattle.session_readers.specs.declared.record.RecordActor.{RecordActor}
 use Rattle.session_readers.specs.Records.{recorded_headers, recorded_blocks, FilesKept, GoesOnFrom, RecordMoved}
+use Rattle.search_session.proofs.Feeding.{some_not_none}
 use Rattle.search_session.proofs.ManyReads.{begins_itself, begins_more, rested_itself, no_reads, reads_more}
-
-some_not_none : (end : Option RecordEnd) → IsSome end → end ≡ None → ⊥
-some_not_none None some none = cc
-some_not_none (Some e) some none = cc
 
 module _ {F : Type 0} (seen : F → FilesSeen) where
   files_themselves : (x : RecordActor F) → FilesKept seen x x
@@ -100,15 +97,8 @@ module _ {F : Type 0} (seen : F → FilesSeen) where
       }
     where
       stays_some : IsSome x.end → IsSome y.end
-      stays_some ended = subst (λ (e : Option RecordEnd). IsSome e) (sym (a.stays ended)) ended
+      stays_some ended = rw (a.stays ended) ended
 
       all_made : (e : Option RecordEnd) → y.end ≡ e → z.end ≡ None → a.made + b.made ≡ n + m
       all_made None is on = let all_a = a.all is in let all_b = b.all on in omega arith
-      all_made (Some e) is on = absurd (some_not_none z.end
-          (subst (λ (o : Option RecordEnd). IsSome o) (sym (b.stays (some_of is) ∙ is)) (some_is e)) on)
-        where
-          some_is : (e : RecordEnd) → IsSome (Some e)
-          some_is e = search rules
-
-          some_of : y.end ≡ Some e → IsSome y.end
-          some_of same = subst (λ (o : Option RecordEnd). IsSome o) (sym same) (some_is e)
+      all_made (Some e) is on = let same = sym on ∙ b.stays (rw is (search rules)) ∙ is in absurd cc

@@ -2,8 +2,8 @@
 use Rattle.std.proofs.Common.{◌≡◌, ◌≢◌, ℕ, ◌-◌, ◌≤◌, false, List, [], length, Option, Some, None, refl, sym, ap, ◌∙◌, subst, arith}
 use Rattle.std.specs.Prelude.{IsSome, option_map}
 use Rattle.std.proofs.lemmas.List.{append-nil}
-use Rattle.psr_base.specs.Count.{Rose}
-use Rattle.psr_base.specs.Made.{NamedBytes, FilesLeft, FilesSeen}
+use Rattle.std.proofs.lemmas.Option.{same_Some}
+use Rattle.psr_base.specs.Made.{FilesLeft, FilesSeen}
 use Rattle.ring_blocks.specs.declared.Entry.{Entry}
 use Rattle.ring_ends.specs.Ended.{sealed_at_end}
 use Rattle.dada_hdu.specs.declared.hdu.Hdu.{Hdu}
@@ -13,9 +13,9 @@ use Rattle.disk_feeder.specs.declared.feeder.Feeder.{Feeder}
 use Rattle.disk_feeder.specs.Feeder.{plan_at, headers_of}
 use Rattle.disk_feeder.specs.Feeding.{HeadersKeepUp, IsEnding}
 use Rattle.dada_recorder.specs.declared.answers.RecordEnd.{RecordEnd}
-use Rattle.dada_recorder.specs.declared.answers.RecordEnd.TheVariants.{Whole, Cut, FileFault, BadHeader, TooLong}
+use Rattle.dada_recorder.specs.declared.answers.RecordEnd.TheVariants.{FileFault}
 use Rattle.dada_recorder.specs.declared.recorder.Recorder.{Recorder}
-use Rattle.dada_recorder.specs.Making.{Outset, BeginsAt, HasMade, made_with, left_after, total_bytes}
+use Rattle.dada_recorder.specs.Making.{Outset, BeginsAt, HasMade, left_after, total_bytes}
 use Rattle.dada_recorder.specs.Blocks.{RecordPlan, files_of_blocks}
 use Rattle.dada_recorder.specs.Recording.{EndIs, FilesAre}
 use Rattle.dada_recorder.specs.Transfers.{IsRunning, StandsAt, EndsClosed}
@@ -25,7 +25,7 @@ use Rattle.session_readers.specs.declared.record.RecordActor.{RecordActor}
 use Rattle.search_session.specs.declared.ended.SessionEnd.{SessionEnd}
 use Rattle.session_readers.specs.Records.{recorded_headers, recorded_blocks, RecordOn, RecordSince, RecordMoved}
 use Rattle.search_session.specs.Stages.{IsFreshRecorder, IsRecorderOf}
-use Rattle.search_session.specs.Recorded.{SealsRecordable, EndsRecording, HasRecorded, RecordedBy, headers_through}
+use Rattle.search_session.specs.Recorded.{SealsRecordable, RecordedBy, headers_through}
 use Rattle.search_session.specs.Sessions.{IsEndOfRecorder}
 use Rattle.search_session.proofs.RecordEnds.{complete, prefix_of, ends_recording, has_recorded, all_cleared}
 
@@ -35,24 +35,19 @@ no_files : (plan : RecordPlan) → files_of_blocks plan [] [] ≡ []
 unfolding files_of_blocks recorded_of_transfers
 no_files plan = refl
 
-abbrev left_with : ℕ → ℕ → FilesLeft
-left_with files bytes = record { files = files; bytes = bytes }
-
 nothing_left : (left : Option FilesLeft) → left ≡ option_map (left_after []) left
 unfolding total_bytes
 nothing_left None = refl
 nothing_left (Some left) =
-    let files : left.files ≡ left.files - 0 = omega arith in
-    let bytes : left.bytes ≡ left.bytes - 0 = omega arith in
-    ap (λ (n : ℕ). Some (left_with n left.bytes)) files ∙ ap (λ (n : ℕ). Some (left_with (left.files - 0) n)) bytes
+    let files : left.files - 0 ≡ left.files = omega arith in
+    let bytes : left.bytes - 0 ≡ left.bytes = omega arith in
+    rw (files, bytes) refl
 
 nothing_made : (plan : RecordPlan) (outset : Outset) (seen : FilesSeen) → BeginsAt outset seen →
     HasMade outset false (files_of_blocks plan [] []) seen
 nothing_made plan outset seen begins =
-    subst (λ (files : List NamedBytes). HasMade outset false files seen) (sym (no_files plan))
-    (record {
-      made = begins.made
-          ∙ ap (λ (files : List NamedBytes). Some (made_with false files)) (sym (append-nil outset.files));
+    rw (no_files plan) (record {
+      made = rw append-nil begins.made;
       left = begins.left ∙ nothing_left outset.left;
     })
 
@@ -61,57 +56,42 @@ some_end None is = absurd cc
 some_end (Some answer) is = (answer, refl)
 
 is_closed : (is_open : Type 0) (answer : RecordEnd) → EndsClosed (Some answer) is_open → answer ≢ FileFault → ¬ is_open
-is_closed is_open (Whole files) closed other = closed
-is_closed is_open (Cut files) closed other = closed
 is_closed is_open FileFault closed other = absurd (other refl)
-is_closed is_open (BadHeader fault) closed other = closed
-is_closed is_open (TooLong limit) closed other = closed
+is_closed is_open answer closed other = closed
 
 module _ {F : Type 0} (seen : F → FilesSeen) (files_open : F → Type 0) (hdu : Hdu) (part : Recorder F)
     (fresh : IsFreshRecorder files_open hdu part) where
   has_room : 1 ≤ (plan_of part).file_size
   has_room =
-      let running : IsRunning part.space.transfers [] [] =
-      subst (λ (e : Option RecordEnd). StandsAt part.space.transfers [] [] e) fresh.running fresh.stands in
+      let running : IsRunning part.space.transfers [] [] = rw fresh.running at fresh.stands in
       running.plan.file_size.0
 
   nothing_recorded : (outset : Outset) → BeginsAt outset (seen part.files.now) →
       FilesAreOf part outset [] [] (seen part.files.now)
   nothing_recorded outset begins =
-      subst (λ (e : Option RecordEnd). FilesAre (plan_of part) outset (has_open_file part) [] [] e
-      (seen part.files.now)) (sym fresh.running)
-      (subst (λ b. HasMade outset b (files_of_blocks (plan_of part) [] []) (seen part.files.now)) (sym fresh.no_file)
-      (nothing_made (plan_of part) outset (seen part.files.now) begins))
+      rw (fresh.running, fresh.no_file) (nothing_made (plan_of part) outset (seen part.files.now) begins)
 
   -- ---- from its start to its end
 
   module _ (number n : ℕ) (start x : RecordActor F) (is : IsRecorderOf part number start)
       (moved : RecordMoved seen n start x) (on : RecordOn files_open hdu x) where
     same_plan : plan_of x.part ≡ plan_of part
-    same_plan = moved.plan ∙ ap (λ (r : Recorder F). plan_of r) is.part_is
+    same_plan = rw is.part_is at moved.plan
 
     start_files : (outset : Outset) → BeginsAt outset (seen part.files.now) →
         FilesAreOf start.part outset (recorded_headers start) (recorded_blocks start) (seen start.part.files.now)
     start_files outset begins =
-        subst (λ (l : List Entry). FilesAreOf start.part outset (recorded_headers start) l (seen start.part.files.now))
-        (sym is.no_block)
-        (subst (λ (l : List Entry). FilesAreOf start.part outset l [] (seen start.part.files.now)) (sym is.no_header)
-        (subst (λ (r : Recorder F). FilesAreOf r outset [] [] (seen r.files.now)) (sym is.part_is)
-        (nothing_recorded outset begins)))
+        rw (is.no_block, is.no_header, is.part_is) (nothing_recorded outset begins)
 
     since_start : RecordSince (seen part.files.now).faults (seen x.part.files.now).faults x.end
     since_start =
         let k = (seen part.files.now).faults in
-        let same : (seen start.part.files.now).faults ≡ k =
-        ap (λ (r : Recorder F). (seen r.files.now).faults) is.part_is in
+        let same : (seen start.part.files.now).faults ≡ k = rw is.part_is refl in
         moved.files.since k (record {
           count = omega arith;
-          failed = λ e. absurd (none_ended (sym is.running ∙ e));
+          failed = λ e. let none = sym is.running ∙ e in absurd cc;
           quiet = λ other. same;
         })
-      where
-        none_ended : None ≡ Some FileFault → ⊥
-        none_ended e = cc
 
     module _ (answer : RecordEnd) (ended : x.end ≡ Some answer) where
       part_end : has_end x.part ≡ Some answer
@@ -166,7 +146,7 @@ module _ {F : Type 0} (seen : F → FilesSeen) (files_open : F → Type 0) (hdu 
       same_seen = ap seen is_end.now
 
       same_start : (seen start.part.files.now).faults ≡ (seen part.files.now).faults
-      same_start = ap (λ (r : Recorder F). (seen r.files.now).faults) is.part_is
+      same_start = rw is.part_is refl
 
       pub recorded_by : RecordedBy files_open seen feeder part reader end
       recorded_by =
@@ -178,34 +158,21 @@ module _ {F : Type 0} (seen : F → FilesSeen) (files_open : F → Type 0) (hdu 
             is = is_end.recorded ∙ is_answer;
             files = is_end.files;
             given = is_end.given;
-            same_reference = is_end.same_reference
-                ∙ (moved.files.same_reference ∙ ap (λ (r : Recorder F). r.files.ghost_name) is.part_is);
+            same_reference = is_end.same_reference ∙ rw is.part_is at moved.files.same_reference;
             count = omega arith;
-            failed = λ failed. subst (λ (n : ℕ). Rose (seen part.files.now).faults n) (sym faults)
-                (since_start.failed (is_answer ∙ ap (λ (e : RecordEnd). Some e) failed));
-            quiet = λ other. faults ∙ since_start.quiet (λ e. other (inside answer (sym is_answer ∙ e)));
-            closed = λ other. subst (λ (files : F). ¬ files_open files) (sym is_end.now)
-                (is_closed (files_open x.part.files.now) answer
-                (subst (λ (e : Option RecordEnd). EndsClosed e (files_open x.part.files.now)) is_answer on.closed)
-                other);
-            ends = λ can. subst (λ (l : List Entry). EndsRecording end.feed
-                (files_of_blocks (plan_of part) l (sealed_at_end end.blocks)) answer) headers_are
-                (ends_recording (plan_of part) all (length (plan_at feeder).starts) end.feed ending answer
-                (ends_complete can));
+            failed = λ failed. rw faults (since_start.failed (rw failed at is_answer));
+            quiet = λ other. faults ∙ since_start.quiet (λ e. other (same_Some answer FileFault (sym is_answer ∙ e)));
+            closed = λ other. rw is_end.now
+                (is_closed (files_open x.part.files.now) answer (rw is_answer at on.closed) other);
+            ends = λ can. rw headers_are at (ends_recording (plan_of part) all (length (plan_at feeder).starts) end.feed
+                ending answer (ends_complete can));
             made = λ can outset begins.
-                subst (λ (l : List Entry). HasRecorded outset
-                (files_of_blocks (plan_of part) l (sealed_at_end end.blocks))
-                (seen is_end.files.now) answer) headers_are
-                (has_recorded (plan_of part) all (length (plan_at feeder).starts) end.feed ending outset
+                rw headers_are at (has_recorded (plan_of part) all (length (plan_at feeder).starts) end.feed ending outset
                 (seen is_end.files.now) answer
                 (law.files (plan_of part) all (has_header x.part) (has_open_file x.part) answer outset
                 (seen is_end.files.now) has_room (begins_complete can) (end_is answer is_answer)
-                (subst (λ (s : FilesSeen). FilesAre (plan_of part) outset (has_open_file x.part) (recorded_headers x)
-                (recorded_blocks x) (Some answer) s) (sym same_seen) (files_are answer is_answer outset begins))));
+                (rw same_seen (files_are answer is_answer outset begins))));
             cleared = λ can other. is_end.cleared
                 ∙ all_cleared (plan_of part) all (length (plan_at feeder).starts) end.feed ending answer
                 (ends_complete can) other;
           }
-        where
-          inside : (a : RecordEnd) → Some a ≡ Some FileFault → a ≡ FileFault
-          inside a e = cc

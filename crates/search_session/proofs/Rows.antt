@@ -1,7 +1,17 @@
 -- Lists of which one element is written, or the first is taken, again and again.
-use Rattle.std.proofs.Common.{◌≡◌, ◌≢◌, ℕ, zero, suc, ◌+◌, ◌<◌, ◌≤◌, List, [], ◌∷◌, ◌++◌, length, get_or, take, drop, remove, slice_set, Some, slice_get, refl, ap, ◌∙◌, arith}
+use Rattle.std.proofs.Common.{◌≡◌, ◌≢◌, ℕ, zero, suc, ◌+◌, ◌<◌, ◌≤◌, List, [], ◌∷◌, ◌++◌, length, get_or, take, drop, remove, slice_set, Option, Some, slice_get, refl, sym, ap, ◌∙◌, arith}
+use Rattle.std.specs.Prelude.{All}
 use Rattle.std.proofs.lemmas.Option.{get_or_from_slice_get, slice_get_within, slice_get-get_or}
 use Rattle.std.proofs.lemmas.List.{drop_more, length-set, get_or-set_same, take_all, take-append-le}
+
+-- what holds of all is true of one
+pub all_at : {A : Type 0} (P : A → Type 0) (xs : List A) (k : ℕ) (x : A) → slice_get xs k ≡ Some x → All P xs → P x
+all_at P xs k x at all = rw (get_or_from_slice_get xs k x x at) at (all k x (slice_get_within xs k x at))
+
+-- a place has one element
+pub one_at : {A : Type 0} (xs : List (Option A)) (k : ℕ) (x y : A) → slice_get xs k ≡ Some (Some x) →
+    slice_get xs k ≡ Some (Some y) → x ≡ y
+one_at xs k x y at also = let e = sym at ∙ also in cc
 
 module _ {A : Type 0} where
   -- ---- an element is written
@@ -9,7 +19,7 @@ module _ {A : Type 0} where
   pub get_set_same : (xs : List A) (k : ℕ) (b : A) → k < length xs → slice_get (slice_set xs k b) k ≡ Some b
   get_set_same xs k b near =
       let long = length-set xs k b in
-      slice_get-get_or (slice_set xs k b) k b (omega arith) ∙ ap (λ (a : A). Some a) (get_or-set_same xs k b b near)
+      rw (slice_get-get_or (slice_set xs k b) k b (omega arith), get_or-set_same xs k b b near) refl
 
   pub get_set_other : (xs : List A) (k j : ℕ) (b : A) → j ≢ k → slice_get (slice_set xs k b) j ≡ slice_get xs j
   get_set_other [] zero j b other = refl
@@ -23,22 +33,23 @@ module _ {A : Type 0} where
   pub all_written : (n : ℕ) (xs ws : List A) → length ws ≡ n → take n (ws ++ drop (length ws) xs) ≡ ws
   all_written n xs ws long =
       let most : n ≤ length ws = omega arith in
-      take-append-le n ws (drop (length ws) xs) most ∙ take_all n ws (omega arith)
+      rw (take-append-le n ws (drop (length ws) xs) most) (take_all n ws (omega arith))
 
   -- ---- the first is taken
 
   pub removed : (l items : List A) (n : ℕ) (a r : A) → slice_get l n ≡ Some a → items ≡ drop n l →
       r ≡ get_or items 0 r → r ≡ a
-  removed l items n a r at is first = first ∙ (ap (λ (m : List A). get_or m 0 r)
-      (is ∙ drop_more l n r (slice_get_within l n a at)) ∙ get_or_from_slice_get l n a r at)
+  removed l items n a r at is first =
+      let more = drop_more l n r (slice_get_within l n a at) in
+      first ∙ rw (is, more) (get_or_from_slice_get l n a r at)
 
   pub first_left : (l : List A) (n : ℕ) (a : A) → slice_get l n ≡ Some a → slice_get (drop n l) 0 ≡ Some a
-  first_left l n a at = ap (λ (m : List A). slice_get m 0) (drop_more l n a (slice_get_within l n a at))
-      ∙ ap (λ (x : A). Some x) (get_or_from_slice_get l n a a at)
+  first_left l n a at =
+      rw (drop_more l n a (slice_get_within l n a at), get_or_from_slice_get l n a a at) refl
 
   pub left_over : (l items items' : List A) (n : ℕ) (r : A) → n < length l → items ≡ drop n l →
       items' ≡ remove items 0 → items' ≡ drop (n + 1) l
-  left_over l items items' n r near is gone = gone ∙ ap (λ (m : List A). remove m 0) (is ∙ drop_more l n r near)
+  left_over l items items' n r near is gone = gone ∙ rw (is, drop_more l n r near) refl
 
   -- ---- one is added at the end
 

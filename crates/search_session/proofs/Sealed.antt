@@ -16,7 +16,7 @@ use Rattle.stream_model.specs.BlockLaws.{BytesAreJoined, EndsAreCounted, Streams
 use Rattle.stream_model.specs.Walk as walk
 use Rattle.stream_model.specs.Walk.{FileStream, WalkStop, walk_data, walk_stop, walk_stream, stream_to, transfer_data}
 use Rattle.disk_feeder.specs.declared.answers.FeedEnd.{FeedEnd}
-use Rattle.disk_feeder.specs.declared.answers.FeedEnd.TheVariants.{Whole, ReadFault, BadHeader, Gap, TooLong}
+use Rattle.disk_feeder.specs.declared.answers.FeedEnd.TheVariants.{Whole, Gap, TooLong}
 use Rattle.disk_feeder.specs.Ends.{end_of}
 use Rattle.disk_feeder.specs.Plan.{Plan}
 use Rattle.disk_feeder.specs.Feeding.{header_entries, HeadersKeepUp, SealedAs, IsWalkEnd}
@@ -39,8 +39,7 @@ of_cut : EndsAreCounted → (size max_bytes : ℕ) (before : List (List ℕ)) (c
     sealed ≡ header_entries (take (length before + 1) headers) →
     sealed ≡ header_entries (take (ended_transfers blocks + 1) headers)
 of_cut ends size max_bytes before current headers sealed blocks is are =
-    are ∙ ap (λ (n : ℕ). header_entries (take (n + 1) headers))
-    (sym (ap ended_transfers is ∙ ends.abandoned size max_bytes before current))
+    rw (is, ends.abandoned size max_bytes before current) are
 
 pub headers_are : EndsAreCounted → (plan : Plan) (size : ℕ) (before : List (List ℕ)) (current : List ℕ)
     (sealed blocks : List Entry) (end : FeedEnd) → SealedAs plan size before current sealed blocks end →
@@ -48,13 +47,7 @@ pub headers_are : EndsAreCounted → (plan : Plan) (size : ℕ) (before : List (
 headers_are ends plan size before current sealed blocks (Whole bytes) s up =
     s.2 ∙ ap header_entries (sym (take_all (ended_transfers blocks + 1) plan.headers
     (few_headers plan.headers sealed blocks up s.2)))
-headers_are ends plan size before current sealed blocks ReadFault s up =
-    of_cut ends size plan.max_bytes before current plan.headers sealed blocks s.0 s.2
-headers_are ends plan size before current sealed blocks (BadHeader file cause) s up =
-    of_cut ends size plan.max_bytes before current plan.headers sealed blocks s.0 s.2
-headers_are ends plan size before current sealed blocks (Gap file expected found) s up =
-    of_cut ends size plan.max_bytes before current plan.headers sealed blocks s.0 s.2
-headers_are ends plan size before current sealed blocks (TooLong limit) s up =
+headers_are ends plan size before current sealed blocks end s up =
     of_cut ends size plan.max_bytes before current plan.headers sealed blocks s.0 s.2
 
 -- ---- the limit
@@ -64,9 +57,8 @@ cut_few : BytesAreJoined → (size max_bytes limit : ℕ) (before : List (List �
     length (joined_data before) + length current ≤ limit → length (joined_bytes blocks) ≤ limit
 cut_few joined size max_bytes limit before current blocks is few =
     let n = blocks_before_stop size max_bytes before current * size in
-    let same = ap (λ (l : List Entry). length (joined_bytes l)) is
-    ∙ ap (length {A = ℕ}) (joined.abandoned size max_bytes before current)
-    ∙ length-append (joined_data before) (take n current) in
+    let same : length (joined_bytes blocks) ≡ length (joined_data before) + length (take n current) =
+    rw (is, joined.abandoned size max_bytes before current, length-append) refl in
     let part = length-take n current in
     omega arith
 
@@ -74,15 +66,9 @@ pub sealed_few : BytesAreJoined → (plan : Plan) (size : ℕ) (before : List (L
     (sealed blocks : List Entry) (end : FeedEnd) → SealedAs plan size before current sealed blocks end →
     length (joined_data before) + length current ≤ plan.max_bytes → length (joined_bytes blocks) ≤ plan.max_bytes
 sealed_few joined plan size before current sealed blocks (Whole bytes) s few =
-    let same = ap (λ (l : List Entry). length (joined_bytes l)) s.0 ∙ ap (length {A = ℕ}) (joined.whole size before) in
+    let same : length (joined_bytes blocks) ≡ length (joined_data before) = rw (s.0, joined.whole size before) refl in
     omega arith
-sealed_few joined plan size before current sealed blocks ReadFault s few =
-    cut_few joined size plan.max_bytes plan.max_bytes before current blocks s.0 few
-sealed_few joined plan size before current sealed blocks (BadHeader file cause) s few =
-    cut_few joined size plan.max_bytes plan.max_bytes before current blocks s.0 few
-sealed_few joined plan size before current sealed blocks (Gap file expected found) s few =
-    cut_few joined size plan.max_bytes plan.max_bytes before current blocks s.0 few
-sealed_few joined plan size before current sealed blocks (TooLong limit) s few =
+sealed_few joined plan size before current sealed blocks end s few =
     cut_few joined size plan.max_bytes plan.max_bytes before current blocks s.0 few
 
 -- ---- the data of whole transfers
@@ -90,7 +76,7 @@ sealed_few joined plan size before current sealed blocks (TooLong limit) s few =
 module _ (have : StreamsHaveTransfers) (size : ℕ) (parts : List (List ℕ)) (blocks : List Entry)
     (is : blocks ≡ whole_stream size parts) where
   pub data_at : (k : ℕ) (bytes : List ℕ) → slice_get parts k ≡ Some bytes → transfer_bytes k blocks ≡ bytes
-  data_at k bytes at = ap (λ (l : List Entry). transfer_bytes k l) is ∙ have.whole size parts k bytes at
+  data_at k bytes at = rw is (have.whole size parts k bytes at)
 
   all_data : (n : ℕ) → length parts ≡ n → map (λ k. transfer_bytes k blocks) (range_with_len 0 n) ≡ parts
   all_data n long =

@@ -1,5 +1,5 @@
 -- Who works in which hand, through rounds.
-use Rattle.std.proofs.Common.{◌≡◌, ℕ, ◌+◌, ◌%◌, ◌<◌, List, [], length, Option, Some, None, slice_get, slice_index_or, refl, sym, ap, ◌∙◌, subst, arith}
+use Rattle.std.proofs.Common.{◌≡◌, ℕ, ◌+◌, ◌%◌, ◌<◌, List, [], length, Option, Some, None, slice_get, slice_index_or, refl, ◌∙◌, arith}
 use Rattle.std.specs.Prelude.{All, IfSome}
 use Rattle.std.proofs.lemmas.Option.{slice_get_within, slice_get-get_or, get_or_from_slice_get}
 use Rattle.psr_base.specs.Told.{Told}
@@ -28,7 +28,7 @@ module _ {A : Type 0} (R : A → A → Type 0) where
   slot_some (Some z) None x is moved = absurd moved
   slot_some (Some z) (Some y) x is moved =
       let same : z ≡ x = cc in
-      (y, refl, subst (λ (w : A). R w y) same moved)
+      (y, refl, rw same at moved)
 
   pub slot_none : (a b : Option A) → a ≡ None → SlotMoved R a b → b ≡ None
   slot_none None None is moved = refl
@@ -43,7 +43,7 @@ module _ {A : Type 0} (R : A → A → Type 0) where
       let there : k < length ys = omega arith in (
         slice_index_or ys k x,
         slice_get-get_or ys k x there,
-        subst (λ (w : A). R w (slice_index_or ys k x)) (get_or_from_slice_get xs k x x at) (moved.each k x near),
+        rw (get_or_from_slice_get xs k x x at) at (moved.each k x near),
       )
 
 -- ---- shards
@@ -53,14 +53,13 @@ of_bank_moved : (banks : List (Option Bank)) (n : ℕ) (x y : ShardActor) → Sh
 of_bank_moved banks n x y moved of = λ bank at.
     follow_more [] (shard_cleared x) (shard_cleared y) (engines_of bank) (engines_of x.part)
     (engines_of y.part)
-    (of bank (subst (λ (s : ℕ). slice_get banks s ≡ Some (Some bank)) moved.number at)) moved.engines
+    (of bank (rw moved.number at at)) moved.engines
 
 slot_of_bank : (banks : List (Option Bank)) (n : ℕ) (a b : Option ShardActor) → SlotMoved (ShardMoved n) a b →
     IfSome a (IsOfBank banks) → IfSome b (IsOfBank banks)
-slot_of_bank banks n None None moved of = of
-slot_of_bank banks n None (Some y) moved of = absurd moved
-slot_of_bank banks n (Some x) None moved of = absurd moved
 slot_of_bank banks n (Some x) (Some y) moved of = of_bank_moved banks n x y moved of
+slot_of_bank banks n None None moved of = of
+slot_of_bank banks n a b moved of = absurd moved
 
 module _ {I F : Type 0} (told : I → Told) (is_calm : I → Type 0) (faults : I → ℕ) (seen : F → FilesSeen) (n : ℕ)
     (old new : List (Hand I F)) (moved : EachMoved (HandMoved told is_calm faults seen n) old new) where
@@ -82,8 +81,7 @@ module _ {I F : Type 0} (told : I → Told) (is_calm : I → Type 0) (faults : I
   -- the recorder is still in its hand
   recorder_in : (start : RecordActor F) → HasRecorder seen start old → HasRecorder seen start new
   recorder_in start has =
-      let there : slice_get old (8 % length new) ≡ Some has.hand =
-      subst (λ (k : ℕ). slice_get old (8 % k) ≡ Some has.hand) (sym moved.count) has.there in
+      let there : slice_get old (8 % length new) ≡ Some has.hand = rw moved.count has.there in
       let h = each_at (HandMoved told is_calm faults seen n) old new (8 % length new) has.hand moved there in
       let x = slot_some (RecordMoved seen n) has.hand.recorder h.0.recorder has.recorder has.works h.2.recorder in
       record {
@@ -111,8 +109,7 @@ module _ {I F : Type 0} (told : I → Told) (is_calm : I → Type 0) (faults : I
   -- each shard is still in its hand
   pub shard_stays : (s : ℕ) → HasShard old s → HasShard new s
   shard_stays s has =
-      let there : slice_get old ((s + 1) % length new) ≡ Some has.hand =
-      subst (λ (k : ℕ). slice_get old ((s + 1) % k) ≡ Some has.hand) (sym moved.count) has.there in
+      let there : slice_get old ((s + 1) % length new) ≡ Some has.hand = rw moved.count has.there in
       let h = each_at (HandMoved told is_calm faults seen n) old new ((s + 1) % length new) has.hand moved there in
       let slot = each_at (SlotMoved (ShardMoved n)) has.hand.shards.items h.0.shards.items has.place (Some has.shard)
       h.2.shards has.works in
@@ -122,7 +119,7 @@ module _ {I F : Type 0} (told : I → Told) (is_calm : I → Type 0) (faults : I
         there = h.1;
         shard = x.0;
         place = has.place;
-        works = slot.1 ∙ ap (λ (a : Option ShardActor). Some a) x.1;
+        works = rw x.1 at slot.1;
         number = x.2.number ∙ has.number;
       }
 

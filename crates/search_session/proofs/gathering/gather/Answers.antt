@@ -1,6 +1,4 @@
-use Rattle.std.proofs.Common.{◌≡◌, ℕ, ◌+◌, ◌%◌, ◌<◌, ◌≤◌, List, Option, length, sym, subst, arith}
-use Rattle.session_readers.specs.declared.shard.ShardActor.{ShardActor}
-use Rattle.search_session.specs.Stages.{AreGathered}
+use Rattle.std.proofs.Common.{◌≡◌, ℕ, ◌+◌, ◌%◌, ◌<◌, ◌≤◌, length, arith}
 use Rattle.search_session.proofs.Gathered.{count_same, left_in, others_in, others_work, gathered_more}
 use Rattle.search_session.proofs.gathering.gather.Goals as goal
 
@@ -31,7 +29,6 @@ loop-s-preserved g c =
       rest = λ t after before. others_work old new place s x leaves t (λ same. absurd (omega arith))
           (inv.rest t (omega arith) before);
       still = λ y is. inv.still y (others_in old new place s x leaves y is);
-      gathered = subst (λ (l : List (Option ShardActor)). AreGathered c.args.hands.now (s + 1) l)
-          (sym c.push.ensures.items) (gathered_more c.args.hands.now s c.loop-s.shards.items x inv.gathered
+      gathered = rw c.push.ensures.items (gathered_more c.args.hands.now s c.loop-s.shards.items x inv.gathered
           leaves.gives.is (inv.still x (left_in old new place s x leaves)));
     }

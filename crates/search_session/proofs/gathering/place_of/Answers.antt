@@ -1,4 +1,4 @@
-use Rattle.std.proofs.Common.{◌≡◌, ◌==◌, ℕ, ◌<◌, Bool, true, false, length, Option, Some, None, slice_index_or, refl, sym, ap, ◌∙◌, subst, arith}
+use Rattle.std.proofs.Common.{◌≡◌, ◌==◌, ℕ, ◌<◌, true, false, length, Option, Some, None, slice_index_or, refl, sym, ◌∙◌, arith}
 use Rattle.std.proofs.lemmas.Bool.Decides.{nat_tests}
 use Rattle.std.proofs.lemmas.List.Elements.{at_read}
 use Rattle.std.proofs.lemmas.Option.{slice_get_read, slice_get_within, get_or_from_slice_get}
@@ -28,8 +28,7 @@ returns-then-has_number-clause-there c =
     let near : place < length slots = omega arith in
     let h = numbered c.args.number slot (sym c.has_number.ensures ∙ c.if-has_number.true) in (
       h.0,
-      slice_get_read slots (length slots) place slot refl near c.index-slots-place.is
-          ∙ ap (λ (s : Option ShardActor). Some s) h.1,
+      rw h.1 at (slice_get_read slots (length slots) place slot refl near c.index-slots-place.is),
       h.2,
     )
 
@@ -41,8 +40,7 @@ loop-place-preserved c = λ k d before.
     let near : place < length slots = omega arith in
     let here : is_numbered c.args.number slot ≡ false = sym c.has_number.ensures ∙ c.if-has_number.false in
     dite (ℕ_discrete k place)
-    (λ same. subst (λ (j : ℕ). is_numbered c.args.number (slice_index_or slots j d) ≡ false) (sym same)
-    (at_read slots (λ s. is_numbered c.args.number s ≡ false) place slot near c.index-slots-place.is here d))
+    (λ same. rw same (at_read slots (λ s. is_numbered c.args.number s ≡ false) place slot near c.index-slots-place.is here d))
     (λ other. c.loop-place.invariant k d (omega arith))
 
 pub unreachable-requires : goal.unreachable-requires
@@ -54,8 +52,5 @@ unreachable-requires c =
     let none : is_numbered c.args.number (slice_index_or slots r.place None) ≡ false =
     c.loop-place.invariant r.place None (omega arith) in
     let some : is_numbered c.args.number (Some r.shard) ≡ true = is_eq (shard_number r.shard) c.args.number r.is in
-    apart (is_numbered c.args.number (Some r.shard)) some (subst (λ (s : Option ShardActor). is_numbered c.args.number s
-    ≡ false) at none)
-  where
-    apart : (b : Bool) → b ≡ true → b ≡ false → ⊥
-    apart b t f = cc
+    let both = sym some ∙ rw at at none in
+    absurd cc

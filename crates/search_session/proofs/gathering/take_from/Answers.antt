@@ -1,4 +1,4 @@
-use Rattle.std.proofs.Common.{◌≡◌, List, Option, Some, length, slice_index_or, refl, sym, ap, ◌∙◌, subst}
+use Rattle.std.proofs.Common.{◌≡◌, List, Option, Some, length, slice_index_or, refl, sym, ap, ◌∙◌}
 use Rattle.std.proofs.lemmas.List.{length-set}
 use Rattle.std.proofs.lemmas.Option.{get_or_from_slice_get}
 use Rattle.session_readers.specs.declared.shard.ShardActor.{ShardActor}
@@ -15,10 +15,8 @@ returns g c =
     let new : List (Option ShardActor) = c.take_shard.new.slots in
     let x = c.take_shard.result in
     let gave : GivesShard items c.args.number x new =
-    subst (λ (l : List (Option ShardActor)). GivesShard l c.args.number x new) c.as_mut_slice.ensures.value
-    c.take_shard.ensures in
-    let count : length new ≡ length items = ap (λ (l : List (Option ShardActor)). length l) gave.slots
-    ∙ length-set items gave.place _ in
+    rw c.as_mut_slice.ensures.value at c.take_shard.ensures in
+    let count : length new ≡ length items = rw gave.slots (length-set items gave.place _) in
     record {
       before = before;
       there = c.requires.1
@@ -26,7 +24,6 @@ returns g c =
           c.requires.1));
       after = _;
       hands = refl;
-      gives = subst (λ (l : List (Option ShardActor)). GivesShard items c.args.number x l)
-          (sym (all_written (length items) items new count)) gave;
+      gives = rw (all_written (length items) items new count) gave;
       recorder = refl;
     }

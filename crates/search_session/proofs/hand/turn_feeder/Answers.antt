@@ -1,7 +1,6 @@
-use Rattle.std.proofs.Common.{Some, sym, subst, rules}
-use Rattle.std.specs.Prelude.{IfSome, IsSome}
-use Rattle.search_session.specs.Feeds.{FeedOn, FeedMoved}
-use Rattle.search_session.specs.Hands.{SlotMoved}
+use Rattle.std.proofs.Common.{Some, rules}
+use Rattle.std.specs.Prelude.{IsSome}
+use Rattle.search_session.specs.Feeds.{FeedOn}
 use Rattle.search_session.proofs.Feeding.{feed_still}
 use Rattle.search_session.proofs.hand.turn_feeder.Goals as goal
 
@@ -13,7 +12,6 @@ returns-then-is_some-clause-moved g c =
     let faults = g.I.Inputs.faults in
     let f = c.in-Some.feeder in
     let on : FeedOn told is_open c.args.hdu.now f =
-    subst (λ slot. IfSome slot (FeedOn told is_open c.args.hdu.now)) c.in-Some.is c.requires in
+    rw c.in-Some.is at c.requires in
     let ended : IsSome f.end = search rules in
-    subst (λ slot. SlotMoved (FeedMoved told is_calm faults 1) slot (Some f)) (sym c.in-Some.is)
-    (feed_still told is_calm faults 1 f on.count ended)
+    rw c.in-Some.is (feed_still told is_calm faults 1 f on.count ended)

@@ -1,5 +1,4 @@
-use Rattle.std.proofs.Common.{◌≡◌, ℕ, ◌+◌, subst, arith}
-use Rattle.search_session.specs.Hands.{HandMoved, EachMoved}
+use Rattle.std.proofs.Common.{◌≡◌, ◌+◌, arith}
 use Rattle.search_session.proofs.Handling.{hands_more}
 use Rattle.search_session.proofs.rounds.round_and_retire.Goals as goal
 
@@ -17,7 +16,6 @@ returns g c =
     let none : c.args.turns + 0 ≡ c.args.turns = omega arith in
     record {
       on = c.retire_ended.ensures.on;
-      moved = subst (λ (n : ℕ). EachMoved (HandMoved told is_calm faults seen n) c.args.hands.now
-          c.retire_ended.new.hands) none both;
+      moved = rw none at both;
       retired = c.retire_ended.ensures.retired;
     }

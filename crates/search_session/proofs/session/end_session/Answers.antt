@@ -1,11 +1,7 @@
-use Rattle.std.proofs.Common.{◌≡◌, ℕ, List, Some, length, slice_get, sym, ap, ◌∙◌, subst, arith}
-use Rattle.std.proofs.lemmas.Option.{slice_get_within}
-use Rattle.ring_blocks.specs.declared.Entry.{Entry}
-use Rattle.disk_feeder.specs.Turns.{sealed_headers}
+use Rattle.std.proofs.Common.{◌≡◌, List, Some, length, slice_get, sym, ◌∙◌, arith}
+use Rattle.std.proofs.lemmas.Option.{slice_get_within, same_Some}
 use Rattle.search_session.specs.declared.feed.FeedActor.{FeedActor}
 use Rattle.search_session.specs.declared.hand.Hand.{Hand}
-use Rattle.search_session.specs.Books.{AreCounted}
-use Rattle.search_session.specs.Sessions.{IsEndOfFeeder, IsEndOfRecorder}
 use Rattle.search_session.proofs.Gathered.{count_same}
 use Rattle.search_session.proofs.Ending.{feeder_on, feeder_ended}
 use Rattle.search_session.proofs.Leaving.{in_old, work_still, some_new, is_recorder, are_done}
@@ -82,12 +78,9 @@ returns g c =
     let r_is = is_recorder old mid new f r first second c.take_recorder-recorder.ensures.is in
     record {
       feeder = λ h other at works.
-          subst (λ (x : FeedActor I). IsEndOfFeeder c.finish.result x)
-          (one_feeder I F old first.before h f other first.there first.works at works) end.feeder;
+          rw (one_feeder I F old first.before h f other first.there first.works at works) at end.feeder;
       counted = λ transfers engines.
-          subst (λ (n : ℕ). AreCounted n transfers c.finish.result.books.items c.finish.result.spectra.items)
-          gathered.count
-          (end.counted transfers (are_done old mid new f r first second told is_open files_open hdu q.on q.ended
+          rw gathered.count at (end.counted transfers (are_done old mid new f r first second told is_open files_open hdu q.on q.ended
           c.take_recorder-recorder.ensures.is shards c.args.shards gathered q.actors.readers q.actors.last transfers
           engines));
       shards = λ s below.
@@ -99,21 +92,12 @@ returns g c =
           );
       recorder = λ h other x at works is.
           let same : f ≡ other = one_feeder I F old first.before h f other first.there first.works at works in
-          subst (λ (l : List Entry). IsEndOfRecorder c.finish.result c.args.shards l x)
-          (ap (λ (y : FeedActor I). sealed_headers y.pass) same)
-          (subst (λ (n : ℕ). IsEndOfRecorder c.finish.result n (sealed_headers f.pass) x) gathered.count
-          (end.recorder x (r_is ∙ is)));
+          rw (gathered.count, same) at (end.recorder x (r_is ∙ is));
       no_recorder = λ is. end.no_recorder (r_is ∙ is);
     }
   where
     one_feeder : (I F : Type 0) (hands : List (Hand I F)) (a b : Hand I F) (x y : FeedActor I) →
         slice_get hands 0 ≡ Some a → a.feeder ≡ Some x → slice_get hands 0 ≡ Some b → b.feeder ≡ Some y → x ≡ y
     one_feeder I F hands a b x y at_a is_x at_b is_y =
-        let same : a ≡ b = hand_is I F a b (sym at_a ∙ at_b) in
-        inside I x y (sym is_x ∙ (ap (λ (h : Hand I F). h.feeder) same ∙ is_y))
-      where
-        hand_is : (I F : Type 0) (a b : Hand I F) → Some a ≡ Some b → a ≡ b
-        hand_is I F a b e = cc
-
-        inside : (I : Type 0) (x y : FeedActor I) → Some x ≡ Some y → x ≡ y
-        inside I x y e = cc
+        let same : a ≡ b = same_Some a b (sym at_a ∙ at_b) in
+        same_Some x y (sym is_x ∙ rw same is_y)

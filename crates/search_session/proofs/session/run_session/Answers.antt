@@ -1,21 +1,14 @@
-use Rattle.std.proofs.Common.{◌≡◌, ℕ, ◌<◌, length, refl, sym, ap, ◌∙◌, subst, arith}
-use Rattle.std.specs.Prelude.{All, IfSome}
+use Rattle.std.proofs.Common.{◌≡◌, length, refl, arith}
 use Rattle.dada_hdu.specs.declared.hdu.Hdu.{Hdu}
 use Rattle.dada_hdu.specs.Passes.{data_shape}
-use Rattle.disk_feeder.specs.Turns.{sealed_headers}
-use Rattle.search_session.specs.Stages.{IsFreshRecorder, RecorderWorks, feeder_of, transfers_of}
-use Rattle.search_session.specs.Books.{AreCounted}
-use Rattle.search_session.specs.Hands.{HandOn}
-use Rattle.search_session.specs.Ends.{HaveEnginesIn}
-use Rattle.search_session.specs.Sessions.{IsEndOfRecorder}
+use Rattle.search_session.specs.Stages.{RecorderWorks, feeder_of, transfers_of}
 use Rattle.search_session.proofs.FeedEnds.{SessionLaws}
 use Rattle.search_session.proofs.Closing.{AllEnded, hands_ended, have_engines, works_count, works_last, feed_is, shards_are, recorded_are}
 use Rattle.search_session.proofs.session.run_session.Goals as goal
 
 pub run_rounds-requires-after_bounds : goal.run_rounds-requires-after_bounds
 run_rounds-requires-after_bounds g c κs within =
-    subst (λ hands. All (HandOn g.I.Inputs.told g.I.Inputs.is_open g.F.Files.is_open c.staff-hdu.result.0) hands)
-    (sym c.as_mut_slice.ensures.value) c.staff-hdu.ensures.on
+    rw c.as_mut_slice.ensures.value c.staff-hdu.ensures.on
 
 pub end_session-requires : goal.end_session-requires
 end_session-requires g c =
@@ -42,24 +35,23 @@ end_session-requires g c =
     rounds.moved.1 staffed.feeder staffed.shards staffed.banks staffed.recorder rounds.on rounds.ended in
     let value = c.len-shards.ensures.value in
     let works : RecorderWorks seen recorder c.len-shards.result now =
-    subst (λ (k : ℕ). RecorderWorks seen recorder k now) (sym value) all.recorder_works in
+    rw value all.recorder_works in
     let listed_is = works_count seen c.len-shards.result now recorder works in
     let readers = c.requires.stage.readers_count in
     let all_readers : length stage.readers.items ≡ (data_shape hdu).readers =
-    c.requires.stage.all_readers ∙ ap (λ (h : Hdu). (data_shape h).readers) (sym staffed.hdu) in
+    rw staffed.hdu c.requires.stage.all_readers in
     record {
       on = all.on;
       ended = all.ended;
       actors = record {
         feeder = (all.feeder.hand, all.feeder.feeder, all.feeder.there, all.feeder.works);
         few = c.len-shards.ensures.fits;
-        shards_work = λ s near. all.shards s (subst (λ (k : ℕ). s < k) value near);
+        shards_work = λ s near. all.shards s (rw value at near);
         readers = omega arith;
         last = works_last seen c.len-shards.result now recorder works;
         engines = (
           transfers_of stage,
-          subst (λ (k : ℕ). HaveEnginesIn now k (transfers_of stage)) (sym value)
-              (have_engines told is_open is_calm faults files_open seen hdu start banks recorder now
+          rw value (have_engines told is_open is_calm faults files_open seen hdu start banks recorder now
               (transfers_of stage) c.requires.stage.banks all),
         );
       };
@@ -107,16 +99,13 @@ returns g c =
           c.requires.faultless;
       shards = shards_are told is_open is_calm faults files_open seen hdu start banks recorder now (transfers_of stage)
           c.requires.stage.banks all laws end f.feed f.inputs f.sealed refl
-          (subst (λ (k : ℕ). AreCounted k (transfers_of stage) end.books.items end.spectra.items) value
-          (e.counted (transfers_of stage) (subst (λ (k : ℕ). HaveEnginesIn now k (transfers_of stage)) (sym value)
+          (rw value at (e.counted (transfers_of stage) (rw value
           (have_engines told is_open is_calm faults files_open seen hdu start banks recorder now (transfers_of stage)
           c.requires.stage.banks all))))
-          (λ s near. e.shards s (subst (λ (k : ℕ). s < k) (sym value) near));
+          (λ s near. e.shards s (rw value near));
       recorded = recorded_are told is_open is_calm faults files_open seen hdu start banks recorder now
           (transfers_of stage) c.requires.stage.banks all laws end f.feed f.inputs f.sealed
-          (subst (λ (h : Hdu). IfSome recorder (IsFreshRecorder files_open h)) (sym staffed.hdu)
-          c.requires.stage.recorder)
-          (λ x is. subst (λ (k : ℕ). IsEndOfRecorder end k (sealed_headers all.feeder.feeder.pass) x) value
-          (e.recorder all.feeder.hand all.feeder.feeder x all.feeder.there all.feeder.works is))
+          (rw staffed.hdu c.requires.stage.recorder)
+          (λ x is. rw value at (e.recorder all.feeder.hand all.feeder.feeder x all.feeder.there all.feeder.works is))
           e.no_recorder;
     }

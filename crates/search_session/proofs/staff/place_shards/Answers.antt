@@ -1,7 +1,4 @@
-use Rattle.std.proofs.Common.{◌≡◌, ◌<◌, Some, length, refl, ap, ◌∙◌, subst, arith}
-use Rattle.session_readers.specs.declared.bank.Bank.{Bank}
-use Rattle.search_session.specs.Stages.{IsUnread, IsUnfed}
-use Rattle.dada_hdu.specs.declared.passes.HduReader.{HduReader}
+use Rattle.std.proofs.Common.{◌≡◌, ◌<◌, Some, length, refl, arith}
 use Rattle.search_session.proofs.Rows.{left_over}
 use Rattle.search_session.proofs.Staffing.{taken_is, none_taken, taken_holds, taken_there, staffed_none, staffed_more}
 use Rattle.search_session.proofs.staff.place_shards.Goals as goal
@@ -46,9 +43,8 @@ shard_of-requires-clause-reader g c =
     let count = c.requires.count in
     let near : s < length c.args.readers.now.items = omega arith in
     let h = c.requires.parts.1.unread s near in
-    subst (λ (r : HduReader). IsUnread c.args.hdu.now s r)
-    (taken_is c.args.readers.now.items c.loop-s.readers.items s c.remove-in-loop-s.result
-    h.0 c.in-Some-remove.reader h.1 c.loop-s.invariant.readers c.remove-in-loop-s.ensures.value c.in-Some-remove.is) h.2
+    rw (taken_is c.args.readers.now.items c.loop-s.readers.items s c.remove-in-loop-s.result h.0
+    c.in-Some-remove.reader h.1 c.loop-s.invariant.readers c.remove-in-loop-s.ensures.value c.in-Some-remove.is) at h.2
 
 pub shard_of-requires-clause-bank : goal.shard_of-requires-clause-bank
 shard_of-requires-clause-bank g c =
@@ -58,9 +54,8 @@ shard_of-requires-clause-bank g c =
     let h = c.requires.parts.1.unfed s near in (
       transfers,
       c.requires.parts.1.some,
-      subst (λ (bank : Bank). IsUnfed transfers bank)
-          (taken_is c.args.banks.items c.loop-s.banks.items s c.remove.result h.0 c.in-Some.bank h.1
-          c.loop-s.invariant.banks c.remove.ensures.value c.in-Some.is) h.2,
+      rw (taken_is c.args.banks.items c.loop-s.banks.items s c.remove.result h.0 c.in-Some.bank h.1
+          c.loop-s.invariant.banks c.remove.ensures.value c.in-Some.is) at h.2,
     )
 
 pub shard_of-requires-clause-space : goal.shard_of-requires-clause-space
@@ -94,6 +89,6 @@ loop-s-preserved g c =
       staffed = staffed_more g.I.Inputs.told g.I.Inputs.is_open g.F.Files.is_open c.args.hdu.now
           c.args.banks.items c.loop-s.hands c.place_shard.new.hands s
           (length c.args.hands.now) c.shard_of.result c.in-Some.bank inv.staffed
-          c.place_shard.ensures (h.1 ∙ ap (λ (l : Bank). Some (Some l)) bank) c.shard_of.ensures.new
+          c.place_shard.ensures (rw bank at h.1) c.shard_of.ensures.new
           c.shard_of.ensures.on;
     }

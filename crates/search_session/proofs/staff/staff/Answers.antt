@@ -1,12 +1,10 @@
-use Rattle.std.proofs.Common.{◌≡◌, ℕ, ◌+◌, ◌<◌, List, ◌++◌, length, take, drop, refl, sym, ap, ◌∙◌, subst, arith}
-use Rattle.std.specs.Prelude.{All}
+use Rattle.std.proofs.Common.{◌≡◌, ◌+◌, List, ◌++◌, length, take, drop, refl, sym, ◌∙◌, arith}
 use Rattle.search_session.specs.declared.hand.Hand.{Hand}
 use Rattle.search_session.specs.Feeds.{FeedOn}
-use Rattle.search_session.specs.Hands.{HandOn}
-use Rattle.search_session.specs.Stages.{IsEmptyHand, TakesFeeder, HasFeeder, HasShard, AreOfBanks, AreStaffed, RecorderPlaced, RecorderWorks, recorder_count, feeder_of, transfers_of}
+use Rattle.search_session.specs.Stages.{TakesFeeder, AreStaffed, RecorderPlaced, feeder_of, transfers_of}
 use Rattle.search_session.proofs.Rows.{all_written}
 use Rattle.search_session.proofs.Gathered.{count_same}
-use Rattle.search_session.proofs.Staffing.{AreReady, first_reader, ready, fed_on, fed_some, fed_feeder, fed_of, fed_shards, fed_recorder}
+use Rattle.search_session.proofs.Staffing.{AreReady, first_reader, ready, fed}
 use Rattle.search_session.proofs.staff.staff.Goals as goal
 
 pub place_shards-requires : goal.place_shards-requires
@@ -22,8 +20,8 @@ place_shards-requires g c =
       count = omega arith;
       spaces_count = s.spaces_count;
       spaces = s.spaces;
-      some = subst (λ l. 0 < length l) (sym c.as_mut_slice.ensures.value) s.some_hand;
-      empty = subst (λ l. All IsEmptyHand l) (sym c.as_mut_slice.ensures.value) s.empty;
+      some = rw c.as_mut_slice.ensures.value s.some_hand;
+      empty = rw c.as_mut_slice.ensures.value s.empty;
     }
 
 pub place_any_recorder-requires-clause-reader : goal.place_any_recorder-requires-clause-reader
@@ -31,9 +29,8 @@ place_any_recorder-requires-clause-reader g c =
     let s = c.requires in
     let stage = c.args.stage in
     first_reader stage.hdu stage.readers.items c.place_shards.new.readers.items c.len-number.result stage.recorder
-    (c.place_shards.ensures.readers
-    ∙ ap (λ (k : ℕ). drop k stage.readers.items) (sym c.len-number.ensures.value)) (s.readers_count
-    ∙ ap (λ (k : ℕ). k + recorder_count stage.recorder) (sym c.len-number.ensures.value)) s.readers
+    (rw c.len-number.ensures.value c.place_shards.ensures.readers) (rw c.len-number.ensures.value s.readers_count)
+    s.readers
 
 pub returns : goal.returns
 returns g c =
@@ -59,17 +56,14 @@ returns g c =
     let mid : c.as_mut_slice-2.result.now ≡ one =
     c.as_mut_slice-2.ensures.value ∙ all_written hands.len hands.items one count_one in
     let placed : RecorderPlaced files_open hdu stage.recorder n one two =
-    subst (λ (l : List H). RecorderPlaced files_open hdu stage.recorder n l two) mid
-    (subst (λ (k : ℕ). RecorderPlaced files_open hdu stage.recorder k c.as_mut_slice-2.result.now two)
-    c.len-number.ensures.value c.place_any_recorder.ensures) in
+    rw (mid, c.len-number.ensures.value) at c.place_any_recorder.ensures in
     let all : AreReady told is_open files_open hdu banks seen stage.recorder n first two =
     ready told is_open files_open hdu banks seen one two n first staffed stage.recorder placed in
     let count_two : length two ≡ hands.len = all.count_is ∙ c.as_mut_slice.ensures.len in
     let before = take hands.len (one ++ drop (length one) hands.items) in
     let mid_two : c.as_mut_slice-3.result.now ≡ two =
     c.as_mut_slice-3.ensures.value ∙ all_written hands.len before two count_two in
-    let takes : TakesFeeder two f three =
-    subst (λ (l : List H). TakesFeeder l f three) mid_two c.place_feeder.ensures in
+    let takes : TakesFeeder two f three = rw mid_two at c.place_feeder.ensures in
     let on : FeedOn told is_open hdu f = record {
       writes = c.requires.writes;
       fits = c.requires.fits;
@@ -81,24 +75,14 @@ returns g c =
     let count_three : length three ≡ hands.len = count_same two three 0 takes.after takes.hands ∙ count_two in
     let written =
     all_written hands.len (take hands.len (two ++ drop (length two) before)) three count_three in
+    let works = rw (← written) at (fed told is_open files_open hdu banks is_calm faults seen stage.recorder two three n
+    first f all takes on) in
     record {
       hdu = refl;
-      on = subst (λ (l : List H). All (HandOn told is_open files_open hdu) l) (sym written)
-          (fed_on told is_open files_open hdu banks is_calm faults seen stage.recorder two
-          three n first f all takes on);
-      some = subst (λ (l : List H). 0 < length l) (sym written)
-          (fed_some told is_open files_open hdu banks is_calm faults seen stage.recorder two three n first f all takes
-          on);
-      feeder = subst (λ (l : List H). HasFeeder told is_calm faults f l) (sym written)
-          (fed_feeder told is_open files_open hdu banks is_calm faults seen stage.recorder two three n first f all takes
-          on);
-      shards = λ s near. subst (λ (l : List H). HasShard l s) (sym written)
-          (fed_shards told is_open files_open hdu banks is_calm faults seen stage.recorder two three n first f all takes
-          on s near);
-      banks = subst (λ (l : List H). AreOfBanks banks l) (sym written)
-          (fed_of told is_open files_open hdu banks is_calm faults seen stage.recorder two
-          three n first f all takes on);
-      recorder = subst (λ (l : List H). RecorderWorks seen stage.recorder n l) (sym written)
-          (fed_recorder told is_open files_open hdu banks is_calm faults seen stage.recorder two three n first f all
-          takes on);
+      on = works.on;
+      some = works.some;
+      feeder = works.feeder;
+      shards = works.placed;
+      banks = works.of_banks;
+      recorder = works.works;
     }

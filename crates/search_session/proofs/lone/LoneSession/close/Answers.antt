@@ -1,8 +1,7 @@
-use Rattle.std.proofs.Common.{List, [], ◌∷◌, length, Option, Some, None, refl, sym, subst}
+use Rattle.std.proofs.Common.{[], ◌∷◌, length, Some, None, refl}
 use Rattle.std.specs.Prelude.{⊤}
-use Rattle.dada_hdu.specs.declared.ended.HduEnded.{HduEnded}
 use Rattle.dada_hdu.specs.Passes.{data_ring, data_end}
-use Rattle.dada_hdu.specs.Ended.{AllReadersOfBoth, RingFinished}
+use Rattle.dada_hdu.specs.Ended.{RingFinished}
 use Rattle.search_session.proofs.Finishing.{passes_in_order, cleared_is, cleared_begins}
 use Rattle.search_session.proofs.LoneEnds.{one_done}
 use Rattle.search_session.proofs.lone.LoneSession.close.Goals as goal
@@ -13,7 +12,7 @@ finish-blocks-requires-clause-readers c =
     let s = c.args.self in
     let x = s.shard in
     let on = c.requires.on.1 in
-    subst (λ (l : List (Option HduEnded)). AllReadersOfBoth s.hdu l) (sym c.one_reader.ensures)
+    rw c.one_reader.ensures
     (c.order_is_enough.ensures s.hdu (Some x.pass ∷ [])
     (passes_in_order {F = ⊤} s.hdu (length (engines_of x.part)) (Some x ∷ []) None
     (one_done s.hdu x on.alone on.number on.shard c.requires.ended.shard)))
@@ -28,8 +27,7 @@ returns c =
     let blocks = c.finish-blocks.result.blocks in
     let writer = s.feed.pass.blocks in
     let end : RingFinished (data_ring s.hdu) writer data_end (Some x.pass ∷ []) blocks =
-    subst (λ (l : List (Option HduEnded)). RingFinished (data_ring s.hdu) writer data_end l blocks)
-    c.one_reader.ensures c.finish-blocks.ensures.blocks in
+    rw c.one_reader.ensures at c.finish-blocks.ensures.blocks in
     record {
       feed = c.in-Some.is;
       sealed = end.sealed;

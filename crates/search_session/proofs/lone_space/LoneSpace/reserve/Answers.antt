@@ -1,7 +1,5 @@
-use Rattle.std.proofs.Common.{◌<◌, refl, subst, arith, rules}
+use Rattle.std.proofs.Common.{◌<◌, refl, arith, rules}
 use Rattle.std.specs.Prelude.{length}
-use Rattle.dada_hdu.specs.declared.passes.HduReader.{HduReader}
-use Rattle.search_session.specs.Stages.{IsUnread}
 use Rattle.search_session.proofs.Staffing.{taken_is, none_taken}
 use Rattle.search_session.proofs.LoneTurns.{is_unread}
 use Rattle.search_session.proofs.lone_space.LoneSpace.reserve.Goals as goal
@@ -31,9 +29,8 @@ returns c =
       sealed = e.sealed;
       no_data = e.no_data;
       alone = c.requires.alone;
-      reader = subst (λ (r : HduReader). IsUnread hdu 0 r)
-          (taken_is readers readers 0 c.remove.result h.0 c.in-Some.reader h.1 refl c.remove.ensures.value
-          c.in-Some.is) (is_unread hdu 0 h.0 h.2);
+      reader = rw (taken_is readers readers 0 c.remove.result h.0 c.in-Some.reader h.1 refl c.remove.ensures.value
+          c.in-Some.is) at (is_unread hdu 0 h.0 h.2);
       room = search rules;
       bank_is = refl;
     }
