@@ -102,7 +102,8 @@ header_runs t f f' headers blocks block none run begun kept placed count =
       });
       ended = run.ended;
       total = run.total;
-      finished = rw (plan, first_under_more (plan_in t) headers blocks block t.ended (omega (arith, ended))) run.finished;
+      finished = rw (plan, first_under_more (plan_in t) headers blocks block t.ended (omega (arith, ended)))
+          run.finished;
       few = run.few;
       within = λ is. record {
         recording = kept ∙ rw (size, ended, get_at_seam headers block []) (recording_is t f headers block ended begun);

@@ -167,7 +167,8 @@ module _ {F : Type 0} (seen : F → FilesSeen) (files_open : F → Type 0) (hdu 
             ends = λ can. rw headers_are at (ends_recording (plan_of part) all (length (plan_at feeder).starts) end.feed
                 ending answer (ends_complete can));
             made = λ can outset begins.
-                rw headers_are at (has_recorded (plan_of part) all (length (plan_at feeder).starts) end.feed ending outset
+                rw headers_are at (has_recorded (plan_of part) all (length (plan_at feeder).starts) end.feed ending
+                outset
                 (seen is_end.files.now) answer
                 (law.files (plan_of part) all (has_header x.part) (has_open_file x.part) answer outset
                 (seen is_end.files.now) has_room (begins_complete can) (end_is answer is_answer)

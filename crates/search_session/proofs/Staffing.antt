@@ -84,7 +84,8 @@ module _ {I F : Type 0} (old new : List (Hand I F)) (place : ℕ) where
           AreOfBanks banks new
       banks_kept same banks of =
           all_kept after is (λ h. All (λ slot. IfSome slot (IsOfBank banks)) h.shards.items) of
-          (rw same (all_at (λ (h : Hand I F). All (λ slot. IfSome slot (IsOfBank banks)) h.shards.items) old place before there of))
+          (rw same (all_at (λ (h : Hand I F). All (λ slot. IfSome slot (IsOfBank banks)) h.shards.items) old place
+          before there of))
 
       recorder_kept : after.recorder ≡ before.recorder → (seen : F → FilesSeen) (start : RecordActor F) →
           HasRecorder seen start old → HasRecorder seen start new

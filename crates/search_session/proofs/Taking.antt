@@ -43,7 +43,8 @@ firsts_more old now n books slot new book near so_far is gives = record {
   books_count = length-append books (book ∷ []) ∙ ap (λ (k : ℕ). k + 1) so_far.books_count;
   given = λ s bank head rest before at engines. dite (ℕ_discrete s n)
       (λ same.
-      let here : slot ≡ Some bank = same_Some slot (Some bank) (sym (slice_get_read now (length now) n slot refl near is)
+      let here : slot ≡ Some bank = same_Some slot (Some bank) (sym (slice_get_read now (length now) n slot refl near
+      is)
       ∙ (so_far.ahead n (omega arith) ∙ rw same at at)) in
       let gave = gives bank head rest here engines in (
         rw (← gave.0) (at_end books book s (so_far.books_count ∙ sym same)),

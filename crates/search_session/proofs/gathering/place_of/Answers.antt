@@ -40,7 +40,8 @@ loop-place-preserved c = λ k d before.
     let near : place < length slots = omega arith in
     let here : is_numbered c.args.number slot ≡ false = sym c.has_number.ensures ∙ c.if-has_number.false in
     dite (ℕ_discrete k place)
-    (λ same. rw same (at_read slots (λ s. is_numbered c.args.number s ≡ false) place slot near c.index-slots-place.is here d))
+    (λ same. rw same (at_read slots (λ s. is_numbered c.args.number s ≡ false) place slot near c.index-slots-place.is
+    here d))
     (λ other. c.loop-place.invariant k d (omega arith))
 
 pub unreachable-requires : goal.unreachable-requires

@@ -80,7 +80,8 @@ returns g c =
       feeder = λ h other at works.
           rw (one_feeder I F old first.before h f other first.there first.works at works) at end.feeder;
       counted = λ transfers engines.
-          rw gathered.count at (end.counted transfers (are_done old mid new f r first second told is_open files_open hdu q.on q.ended
+          rw gathered.count at (end.counted transfers (are_done old mid new f r first second told is_open files_open
+          hdu q.on q.ended
           c.take_recorder-recorder.ensures.is shards c.args.shards gathered q.actors.readers q.actors.last transfers
           engines));
       shards = λ s below.
