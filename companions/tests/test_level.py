@@ -96,12 +96,12 @@ def test_what_is_written_is_what_the_definition_says(
     assert written.tolist() == reference.written(added.tolist())
 
 
-TESTS = HERE.parent.parent / "crates/level_tests/src"
+TESTS = HERE.parent.parent / "crates/program_tests/src/level"
 OPTIONS = {"--mean": "mean", "--deviation": "deviation", "--clip": "clip"}
 
 
 def table_of(file: str, name: str) -> list[list[str]]:
-    """The rows of a table of level_tests, each of five fields."""
+    """The rows of a table of program_tests, each of five fields."""
     text = re.search(rf'const {name}: &str = "\n(.*?)\n";', (TESTS / file).read_text(), re.S)
     assert text
     joined = re.sub(r"\\\n *", "", text[1])
@@ -109,13 +109,13 @@ def table_of(file: str, name: str) -> list[list[str]]:
 
 
 def values_in(row: list[str]) -> list[int]:
-    """The values of a file of level_tests."""
+    """The values of a file of program_tests."""
     pairs = [word.split("*") if "*" in word else ("1", word) for word in row[3].split()]
     return [int(value) for count, value in pairs for _ in range(int(count))]
 
 
 def written_by(words: list[str], row: list[str]) -> list[int]:
-    """What the definition makes of a file of level_tests by these words."""
+    """What the definition makes of a file of program_tests by these words."""
     text = " ".join(row[1].split(";"))
     bits, channels = (int(re.search(rf"{key} +(\d+)", text)[1]) for key in ("NBIT", "NCHAN"))  # type: ignore[index]
     polarisations = 2 if "NPOL 2" in text else 1
@@ -136,7 +136,7 @@ def written_by(words: list[str], row: list[str]) -> list[int]:
 
 
 def test_the_rows_of_the_proved_tests_are_those_of_the_definition() -> None:
-    """Each run of crates/level_tests that reads one file and ends with 0."""
+    """Each run of crates/program_tests that reads one file and ends with 0."""
     files = {row[0]: row for row in table_of("files.rt", "FILES")}
     tried = 0
     for words, _, status, output, _ in table_of("cases.rt", "RUNS"):

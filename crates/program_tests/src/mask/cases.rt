@@ -1,6 +1,6 @@
 // Runs as the lines of a table give them, and how they must end.
-use crate::files::FILES;
-use crate::running::{run_over, words_of};
+use crate::mask::files::FILES;
+use crate::mask::running::{run_over, words_of};
 use run_cases::{Case, calls_of, fields_of};
 use std::alloc::Global;
 use std::process::Abort;

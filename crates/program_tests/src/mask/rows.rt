@@ -1,5 +1,5 @@
 // Runs.
-use crate::cases::Table;
+use crate::mask::cases::Table;
 
 // Runs over two channels.
 const PULSES: Table = Table {

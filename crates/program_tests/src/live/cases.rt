@@ -1,6 +1,6 @@
 // Runs as the lines of a table say them, and how they must end.
-use crate::files::inputs_for;
-use crate::running::run_words;
+use crate::live::files::inputs_for;
+use crate::live::running::run_words;
 use run_cases::{Case, NEVER, fields_of, words_of};
 use std::alloc::Global;
 use std::process::Abort;

@@ -1,5 +1,5 @@
 // The text against those of psr_search and psr_part, over an observation that is made.
-use crate::running::{run_words, without_checks};
+use crate::live::running::{run_words, without_checks};
 use psr_base::MemInputs;
 use psr_part::run_part_in_memory;
 use run_cases::{ENOUGH, made_observation, search_text, words_of};

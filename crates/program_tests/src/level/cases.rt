@@ -1,6 +1,6 @@
 // Runs as the lines of a table say them, and how they must end.
-use crate::files::{bytes_of, inputs_for};
-use crate::running::level;
+use crate::level::files::{bytes_of, inputs_for};
+use crate::level::running::level;
 use run_cases::{Case, fields_of, has_lines};
 use std::alloc::Global;
 use std::process::Abort;

@@ -1,6 +1,6 @@
 // A call of the inputs or of the output fails.
-use crate::files::inputs_for;
-use crate::running::run_words;
+use crate::live::files::inputs_for;
+use crate::live::running::run_words;
 use run_cases::{ENOUGH, Ended, Limits, before_last_line, words_of};
 use std::alloc::Global;
 use std::process::Abort;

@@ -1,6 +1,6 @@
 // An observation that is searched in two parts gives the text of one search.
-use crate::files::FILES;
-use crate::running::run_words;
+use crate::part::files::FILES;
+use crate::part::running::run_words;
 use psr_base::MemInputs;
 use run_cases::{ENOUGH, before_last_line, made_observation, search_text, words_of};
 use std::alloc::Global;

@@ -1,5 +1,5 @@
 // The masked text of four channels by plain sums, cell by cell.
-use crate::four::{CHANNELS, SAMPLES, SPECTRA};
+use crate::mask::four::{CHANNELS, SAMPLES, SPECTRA};
 use std::alloc::Global;
 use std::test::Fail;
 

@@ -1,6 +1,6 @@
 // Runs as the lines of a table give them, and how they must end.
-use crate::files::FILES;
-use crate::running::run_words;
+use crate::part::files::FILES;
+use crate::part::running::run_words;
 use run_cases::{Case, fields_of, words_of};
 use std::alloc::Global;
 use std::process::Abort;

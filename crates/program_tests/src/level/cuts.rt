@@ -1,6 +1,6 @@
 // Observations that are cut anywhere, and inputs and outputs of which each call fails.
-use crate::files::{bytes_of, header_of, inputs_for, line_of};
-use crate::running::level;
+use crate::level::files::{bytes_of, header_of, inputs_for, line_of};
+use crate::level::running::level;
 use psr_base::MemInputs;
 use run_cases::{ENOUGH, Ended, Limits, fields_of};
 use std::alloc::Global;

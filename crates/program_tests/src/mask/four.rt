@@ -1,6 +1,6 @@
 // An observation of four channels in each layout of its samples.
-use crate::files::FILES;
-use crate::plain::is_masked;
+use crate::mask::files::FILES;
+use crate::mask::plain::is_masked;
 use psr_base::MemInputs;
 use std::alloc::Global;
 use std::test::Fail;

@@ -1,10 +1,10 @@
 // Whole runs.
-use crate::cases::check_all;
-use crate::files::FILES;
-use crate::four::{inputs_of, layout_of, mask_text};
-use crate::plain::text_without;
-use crate::rows::RUNS;
-use crate::running::{run_over, words_of};
+use crate::mask::cases::check_all;
+use crate::mask::files::FILES;
+use crate::mask::four::{inputs_of, layout_of, mask_text};
+use crate::mask::plain::text_without;
+use crate::mask::rows::RUNS;
+use crate::mask::running::{run_over, words_of};
 use run_cases::{ENOUGH, Ended, NEVER, push_words, search_text};
 use std::alloc::Global;
 use std::sync::Wait;
