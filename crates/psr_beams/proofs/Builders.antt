@@ -149,7 +149,8 @@ module _ {I : Type 0} {told : I → Told} {is_calm : I → Type 0} {faults : I �
       ((files : List (List ℕ)) → AreBeamsTold (told_at told before) s.names files → P s files) →
       ForBeams words (told_at told before) P
   for_settings P holds t files says are =
-      for_said (λ u. (fs : List (List ℕ)) → AreBeamsTold (told_at told before) u.names fs → P u fs) holds t says files are
+      for_said (λ u. (fs : List (List ℕ)) → AreBeamsTold (told_at told before) u.names fs → P u fs) holds t says files
+      are
 
   pub inside : (k : ℕ) → k < length s.names → k < length before
   inside k below = let enough = run.enough in omega (arith, below, enough)

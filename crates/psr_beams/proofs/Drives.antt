@@ -69,7 +69,8 @@ module _ {I : Type 0} {told : I → Told} {is_open is_calm : I → Type 0} {faul
   pub headers_read : (k : ℕ) → k < length slice → IsSome (headers_in slice k)
   headers_read k within =
       let count = many in
-      rw same (headers_there told is_open s ready.starts n before mid slots ready.begun reach k (omega (arith, within, count)))
+      rw same (headers_there told is_open s ready.starts n before mid slots ready.begun reach k
+      (omega (arith, within, count)))
 
   -- ---- it was not opened
 
@@ -105,7 +106,8 @@ module _ {I : Type 0} {told : I → Told} {is_open is_calm : I → Type 0} {faul
       module _ {after : List I} {ends ended : List (Option BeamEnd)}
           (answers : SetAnswers told is_calm faults beams mid after ends) (are : ended ≡ ends) where
         came : HaveCome told is_calm faults s o n mid after ended
-        came = rw are (have_come told is_open s o ready.starts n before mid reach slots ready.begun beams joined is_calm faults
+        came = rw are (have_come told is_open s o ready.starts n before mid reach slots ready.begun beams joined is_calm
+            faults
             after ends answers)
 
         pub data_found :
@@ -124,7 +126,7 @@ module _ {I : Type 0} {told : I → Told} {is_open is_calm : I → Type 0} {faul
           fits = fits;
           ends = ended;
           come = came;
-          broken = rw are (have_broken told is_open s o ready.starts n before mid reach slots ready.begun beams joined is_calm
-              faults after ends answers);
+          broken = rw are (have_broken told is_open s o ready.starts n before mid reach slots ready.begun beams joined
+              is_calm faults after ends answers);
           ended = at;
         }))

@@ -130,7 +130,8 @@ module _ {I : Type 0} (told : I → Told) (is_open : I → Type 0) (s : Settings
     each = λ k within.
         let there : k < length lent = omega (arith, within, enough) in
         let x = element lent k there in
-        rw (seen_there told nothing_told lent k x there) (can_slot o (beam_name s k) (get_or before k x) (get_or lent k x) (get_or slots k None) (begun.each k x within)
+        rw (seen_there told nothing_told lent k x there)
+        (can_slot o (beam_name s k) (get_or before k x) (get_or lent k x) (get_or slots k None) (begun.each k x within)
         (all_say law (headers_in slots) count o one (headers_there count before lent slots begun enough 0 some) k
         within));
   }

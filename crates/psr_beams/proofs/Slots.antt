@@ -13,7 +13,8 @@ module _ {X : Type 0} (P : X → Type 0) where
       ((k : ℕ) → k < length slots → IfSome (get_or slots k None) P) → All IsSome slots →
       All (λ slot. IsSomeAnd slot P) slots
   all_there slots filled some k d within =
-      rw (sym (get_or_default slots k None d within)) (is_there (get_or slots k None) (some k None within) (filled k within))
+      rw (sym (get_or_default slots k None d within))
+      (is_there (get_or slots k None) (some k None within) (filled k within))
 
   -- the slots are written back
   pub filled : (empty slots : List (Option X)) → length slots ≡ length empty →

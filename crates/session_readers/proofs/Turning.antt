@@ -92,7 +92,8 @@ module _ (hdu : Hdu) (x y : ShardActor) (reader reader' : HduReader) (was : x.pa
   pub on_still : ReadsBoth hdu reader' → blocks_cleared reader' ≡ blocks_cleared reader → y.part ≡ x.part →
       vec_len y.space ≡ vec_len x.space → y.turns ≡ x.turns → y.done ≡ x.done → y.ended ≡ x.ended → ShardOn hdu x →
       ShardOn hdu y
-  on_still reads same part = on_kept x y (cleared_same same) part hdu (rw now reads) (λ running. (reader', now)) (rw now tt)
+  on_still reads same part = on_kept x y (cleared_same same) part hdu (rw now reads) (λ running. (reader', now))
+      (rw now tt)
 
   pub stepped_still : (next : Bool) → header_is_next x.pass ≡ next → ReadsRing next (Here reader) (Here reader') →
       blocks_cleared reader' ≡ blocks_cleared reader → y.part ≡ x.part → y.done ≡ x.done → y.ended ≡ x.ended →
@@ -219,7 +220,8 @@ module _ (hdu : Hdu) (x y : ShardActor) (same : HasRested x.pass y.pass) (part :
   pub on_retired : EndedFromBoth hdu y.pass → IsRetired y.pass → vec_len y.space ≡ vec_len x.space → y.done ≡ x.done →
       y.ended ≡ x.ended → x.ended ≡ true → ShardOn hdu x → ShardOn hdu y
   on_retired reads retired space done ended over = on_kept x y same.blocks.cleared part hdu reads
-      (λ running. absurd (false≢true (sym running ∙ ended ∙ over))) (retired_stays y.pass retired) space turns done ended
+      (λ running. absurd (false≢true (sym running ∙ ended ∙ over))) (retired_stays y.pass retired) space turns done
+      ended
 
   pub moved_retired : x.turns < 2 ^ 64 → y.ended ≡ x.ended → ShardMoved 0 x y
   moved_retired small ended =
