@@ -1,5 +1,5 @@
 -- Beams that were searched: their books hold the candidate lists of their data.
-use Rattle.std.proofs.Common.{◌≡◌, ℕ, ◌<◌, ◌≤◌, List, [], map, length, get_or, Option, Some, None, refl, sym, ap, subst, ◌∙◌, arith}
+use Rattle.std.proofs.Common.{◌≡◌, ℕ, ◌<◌, ◌≤◌, List, [], map, length, get_or, Option, Some, None, refl, sym, ap, ◌∙◌, arith}
 use Rattle.std.specs.Prelude.{All, IsSome}
 use Rattle.std.proofs.lemmas.List.{ext_get_or, get_or-map, length-map, take_all}
 use Rattle.std.proofs.lemmas.List.Elements.{All-map, All-from_get_or, Contains-get_or}
@@ -70,7 +70,7 @@ module _ (listed : CandidatesAreListed) (rise : CandidatesRise) (o : Observation
     -- what holds of each candidate list holds of each list of the beams
     each_list : (P : List Candidate → Type 0) → ((bytes : List ℕ) → P (candidates_of o s bytes)) →
         All P (lists_of (found_in beams))
-    each_list P all = subst (λ f. All P (lists_of f)) (sym all_found)
+    each_list P all = rw all_found
         (All-map P (λ (f : FoundBeam). f.list) (map (found_by o s) data_of_beams)
         (All-map (λ (f : FoundBeam). P f.list) (found_by o s) data_of_beams (λ b d within.
         all (get_or data_of_beams b d))))

@@ -1,13 +1,14 @@
 -- A later header that says the same as the first one has its observation.
-use Rattle.std.proofs.Common.{◌≡◌, ℕ, ◌^◌, ltb, Bool, true, false, ◌||◌, List, [], ◌∷◌, Option, Some, None, Result, Ok, Err, refl, sym, ap, ◌∙◌, subst, arith}
+use Rattle.std.proofs.Common.{◌≡◌, ℕ, ◌^◌, ltb, Bool, true, false, ◌||◌, List, [], ◌∷◌, Option, Some, None, Result, Ok, Err, refl, sym, ap, ◌∙◌, arith}
 use Rattle.std.specs.Prelude.{ℤ, pos, negsuc, neg_ℤ, unsigned_abs, int_le, int_lt, if◌then◌else◌, filter_map}
+use Rattle.std.specs.Result.{result_unwrap_or}
 use Rattle.std.specs.List.{AllByRecursion, cons_option}
 use Rattle.std.proofs.lemmas.Bool.{leb-true, and_parts}
 use Rattle.std.proofs.lemmas.Bool.Decides.{nat_tests}
 use Rattle.dada_model.specs.declared.key.Key.{Key}
 use Rattle.dada_model.specs.declared.key.Key.TheVariants.{Nchan, Nbit, Npol, Ndim, Tsamp, Freq, Bw, ObsOffset}
 use Rattle.dada_model.specs.Fields.{Field}
-use Rattle.dada_model.specs.Observation.{Observation, Refusal, number_of, observation_in, observation_of, is_within, is_in_row}
+use Rattle.dada_model.specs.Observation.{Refusal, number_of, observation_in, observation_of, is_within}
 use Rattle.dada_model.specs.Laws.{AcceptedByRows, HasNumberInRow}
 use Rattle.obs_plan.specs.declared.fault.ObsFault.{ObsFault}
 use Rattle.obs_plan.specs.declared.fault.ObsFault.TheVariants.{Differs, OutOfRange}
@@ -22,15 +23,12 @@ both_ways : (a b : ℤ) → int_le a b ≡ true → int_le b a ≡ true → a �
 both_ways (pos m) (pos n) up down =
     let x = leb-true m n up in
     let y = leb-true n m down in
-    let same : m ≡ n = omega arith in
-    ap (λ (k : ℕ). pos k) same
-both_ways (pos m) (negsuc n) up down = (cc)
-both_ways (negsuc m) (pos n) up down = (cc)
+    ap (λ (k : ℕ). pos k) (omega arith)
 both_ways (negsuc m) (negsuc n) up down =
     let x = leb-true n m up in
     let y = leb-true m n down in
-    let same : m ≡ n = omega arith in
-    ap (λ (k : ℕ). negsuc k) same
+    ap (λ (k : ℕ). negsuc k) (omega arith)
+both_ways a b up down = (cc)
 
 within_one : (a z : ℤ) → is_within a a z ≡ true → z ≡ a
 within_one a z h =
@@ -105,90 +103,41 @@ module _ (later : List Field) where
 
 -- ---- both headers
 
-module _ (law : AcceptedByRows) (o : Observation) (first later : List Field) (accepted : observation_of first ≡ Ok o)
-    (agrees : later_offset_of (profile_of o) later ≡ Ok o.obs_offset) where
-  observed : o ≡ observation_in first
-  observed = ((law first o).0 accepted).0
-
+module _ (law : AcceptedByRows) (first later : List Field) (accepted : observation_of first ≡ Ok (observation_in first))
+    (agrees : later_offset_of (profile_of (observation_in first)) later ≡ Ok (observation_in first).obs_offset) where
   abbrev row : (key : Key) → HasNumberInRow first key
-  row = ((law first o).0 accepted).1
-
-  faults : filter_map (difference later) (profile_values (profile_of o)) ≡ []
-  unfolding later_offset_of
-  faults = (no_fault (filter_map (difference later) (profile_values (profile_of o)))
-      (offset_or_fault (number_of later ObsOffset)) o.obs_offset agrees).0
-
-  offset : number_of later ObsOffset ≡ Ok (pos o.obs_offset)
-  unfolding later_offset_of
-  offset = offset_is (number_of later ObsOffset) o.obs_offset
-      (no_fault (filter_map (difference later) (profile_values (profile_of o)))
-      (offset_or_fault (number_of later ObsOffset)) o.obs_offset agrees).1
+  row = ((law first (observation_in first)).0 accepted).1
 
   -- the value of a key in the first header
   abbrev number : Key → ℤ
   number key = (row key).number
 
-  -- what the observation has of it
-  channels_are : o.channels ≡ unsigned_abs (number Nchan)
-  unfolding observation_in
-  channels_are = ap (λ (x : Observation). x.channels) observed ∙ rw (row Nchan).is refl
+  no_faults : (filter_map (difference later) (profile_values (profile_of (observation_in first))) ≡ [])
+      × (offset_or_fault (number_of later ObsOffset) ≡ Ok (observation_in first).obs_offset)
+  unfolding later_offset_of
+  no_faults = no_fault _ _ _ agrees
 
-  nbit_is : o.nbit ≡ unsigned_abs (number Nbit)
-  unfolding observation_in
-  nbit_is = ap (λ (x : Observation). x.nbit) observed ∙ rw (row Nbit).is refl
+  -- a natural number that the later header says is that of the first one
+  same_natural : (key : Key) → number key ≡ pos (unsigned_abs (number key)) →
+      number_of later key ≡ Ok (pos (unsigned_abs (result_unwrap_or (number_of first key) (pos 0)))) →
+      number_of later key ≡ number_of first key
+  same_natural key natural said = said ∙ rw ((row key).is, sym natural) refl
 
-  npol_is : o.npol ≡ unsigned_abs (number Npol)
-  unfolding observation_in
-  npol_is = ap (λ (x : Observation). x.npol) observed ∙ rw (row Npol).is refl
-
-  sample_is : o.sample_ns ≡ unsigned_abs (number Tsamp)
-  unfolding observation_in
-  sample_is = ap (λ (x : Observation). x.sample_ns) observed ∙ rw (row Tsamp).is refl
-
-  centre_is : o.centre_hz ≡ unsigned_abs (number Freq)
-  unfolding observation_in
-  centre_is = ap (λ (x : Observation). x.centre_hz) observed ∙ rw (row Freq).is refl
-
-  width_is : o.width_hz ≡ unsigned_abs (number Bw)
-  unfolding observation_in
-  width_is = ap (λ (x : Observation). x.width_hz) observed ∙ rw (row Bw).is refl
-
-  falls : o.is_falling ≡ int_lt (number Bw) (pos 0)
-  unfolding observation_in
-  falls = ap (λ (x : Observation). x.is_falling) observed ∙ rw (row Bw).is refl
-
-  offset_was : o.obs_offset ≡ unsigned_abs (number ObsOffset)
-  unfolding observation_in
-  offset_was = ap (λ (x : Observation). x.obs_offset) observed ∙ rw (row ObsOffset).is refl
-
-  -- a natural number of the observation is that of the first header
-  same_natural : (key : Key) (n : ℕ) → n ≡ unsigned_abs (number key) → number key ≡ pos (unsigned_abs (number key)) →
-      number_of later key ≡ Ok (pos n) → number_of later key ≡ number_of first key
-  same_natural key n is natural said =
-      said ∙ ap (λ (k : ℕ). Ok (pos k)) is ∙ ap (λ (z : ℤ). Ok z) (sym natural) ∙ sym (row key).is
-
-  said : AllByRecursion (Says later) (profile_values (profile_of o))
-  said = all_agree later (profile_values (profile_of o)) faults
+  said : AllByRecursion (Says later) (profile_values (profile_of (observation_in first)))
+  said = all_agree later (profile_values (profile_of (observation_in first))) no_faults.0
 
   same_number : (key : Key) → number_of later key ≡ number_of first key
-  same_number Nchan = same_natural Nchan o.channels channels_are
-      (within_natural 2 _ (number Nchan) (row Nchan).in_row) said.0
-  same_number Nbit = same_natural Nbit o.nbit nbit_is
-      (either_natural 8 16 _ _ (number Nbit) _ _ refl refl (row Nbit).in_row) said.1.0
-  same_number Npol = same_natural Npol o.npol npol_is
-      (within_natural 1 _ (number Npol) (row Npol).in_row) said.1.1.0
+  unfolding observation_in
+  same_number Nchan = same_natural Nchan (within_natural 2 _ (number Nchan) (row Nchan).in_row) said.0
+  same_number Nbit = same_natural Nbit (either_natural 8 16 _ _ (number Nbit) _ _ refl refl (row Nbit).in_row) said.1.0
+  same_number Npol = same_natural Npol (within_natural 1 _ (number Npol) (row Npol).in_row) said.1.1.0
   same_number Ndim = said.1.1.1.0 ∙ ap (λ (z : ℤ). Ok z) (sym (within_one (pos 1) (number Ndim) (row Ndim).in_row))
       ∙ sym (row Ndim).is
-  same_number Tsamp = same_natural Tsamp o.sample_ns sample_is
-      (within_natural 1 _ (number Tsamp) (row Tsamp).in_row) said.1.1.1.1.0
-  same_number Freq = same_natural Freq o.centre_hz centre_is
-      (within_natural 1000 _ (number Freq) (row Freq).in_row) said.1.1.1.1.1.0
-  same_number Bw = said.1.1.1.1.1.1.0
-      ∙ ap (λ (b : Bool). Ok (if b then neg_ℤ (pos o.width_hz) else pos o.width_hz)) falls
-      ∙ ap (λ (k : ℕ). Ok (if int_lt (number Bw) (pos 0) then neg_ℤ (pos k) else pos k)) width_is
-      ∙ ap (λ (z : ℤ). Ok z) (sym (signed (number Bw))) ∙ sym (row Bw).is
-  same_number ObsOffset = same_natural ObsOffset o.obs_offset offset_was
-      (within_natural 0 _ (number ObsOffset) (row ObsOffset).in_row) offset
+  same_number Tsamp = same_natural Tsamp (within_natural 1 _ (number Tsamp) (row Tsamp).in_row) said.1.1.1.1.0
+  same_number Freq = same_natural Freq (within_natural 1000 _ (number Freq) (row Freq).in_row) said.1.1.1.1.1.0
+  same_number Bw = said.1.1.1.1.1.1.0 ∙ rw ((row Bw).is, sym (signed (number Bw))) refl
+  same_number ObsOffset = same_natural ObsOffset (within_natural 0 _ (number ObsOffset) (row ObsOffset).in_row)
+      (offset_is (number_of later ObsOffset) _ no_faults.1)
 
   same_observation : observation_in later ≡ observation_in first
   unfolding observation_in
@@ -206,11 +155,14 @@ module _ (law : AcceptedByRows) (o : Observation) (first later : List Field) (ac
   row_later key = record {
     number = number key;
     is = same_number key ∙ (row key).is;
-    in_row = subst (λ (x : Observation). is_in_row x key (number key) ≡ true) (sym same_observation) (row key).in_row;
+    in_row = rw same_observation (row key).in_row;
   }
 
-  agreed : observation_of later ≡ Ok o
-  agreed = (law later o).1 (observed ∙ sym same_observation, row_later, ((law first o).0 accepted).2)
+  agreed : observation_of later ≡ Ok (observation_in first)
+  agreed = (law later (observation_in first)).1
+      (sym same_observation, row_later, ((law first (observation_in first)).0 accepted).2)
 
 pub later_agree : AcceptedByRows → LaterHeadersAgree
-later_agree law o first later accepted agrees = agreed law o first later accepted agrees
+later_agree law o first later accepted agrees =
+    let is = ((law first o).0 accepted).0 in
+    rw is (agreed law first later (rw is at accepted) (rw is at agrees))

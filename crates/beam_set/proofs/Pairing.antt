@@ -1,21 +1,8 @@
 -- Pairs of two lists, of which each is the join of two.
-use Rattle.std.proofs.Common.{◌≡◌, ℕ, ◌+◌, ◌-◌, ◌<◌, ◌≤◌, List, ◌++◌, length, get_or, inl, inr, refl, sym, ap, ◌∙◌, subst, arith}
+use Rattle.std.proofs.Common.{◌≡◌, ℕ, ◌+◌, ◌-◌, ◌<◌, ◌≤◌, List, ◌++◌, length, get_or, inl, inr, refl, sym, ◌∙◌, arith}
 use Rattle.std.proofs.lemmas.Bool.{cases_lt}
-use Rattle.std.proofs.lemmas.List.{get_or_append_left, get_or-append_right, length-append}
+use Rattle.std.proofs.lemmas.List.{get_or_append_left, get_or-append-add, get_or-append_right, length-append}
 use Rattle.beam_set.specs.Sets.{EachPair, PairsMoved}
-
--- the elements of a join
-module _ {A : Type 0} (xs zs : List A) where
-  pub left_at : (k : ℕ) (d : A) → k < length xs → get_or (xs ++ zs) k d ≡ get_or xs k d
-  left_at k d near = get_or_append_left xs zs d k near
-
-  pub right_at : (k : ℕ) (d : A) (n : ℕ) → length xs ≡ n → n ≤ k → get_or (xs ++ zs) k d ≡ get_or zs (k - n) d
-  right_at k d n is far = get_or-append_right xs zs n k d is far
-
-  pub right_from : (k : ℕ) (d : A) (n : ℕ) → length xs ≡ n → get_or zs k d ≡ get_or (xs ++ zs) (n + k) d
-  right_from k d n is =
-      let back : n + k - n ≡ k = omega arith in
-      ap (λ (j : ℕ). get_or zs j d) (sym back) ∙ sym (right_at (n + k) d n is (omega arith))
 
 module _ {A B : Type 0} (P : A → B → Type 0) (xs zs : List A) (us vs : List B) (same : length us ≡ length xs) where
   pub pairs_right : EachPair P (xs ++ zs) (us ++ vs) → EachPair P zs vs
@@ -24,9 +11,8 @@ module _ {A B : Type 0} (P : A → B → Type 0) (xs zs : List A) (us vs : List 
       record {
         count = omega (arith, all, same, length-append xs zs, length-append us vs);
         each = λ k z v near.
-            subst (λ (w : B). P (get_or zs k z) w) (sym (right_from us vs k v (length xs) same))
-            (subst (λ (y : A). P y (get_or (us ++ vs) (length xs + k) v)) (sym (right_from xs zs k z (length xs) refl))
-            (pairs.each (length xs + k) z v (omega (arith, length-append xs zs))));
+            rw (sym (get_or-append-add us vs k v), sym (get_or-append-add xs zs k z), same)
+            (pairs.each (length xs + k) z v (omega (arith, length-append xs zs)));
       }
 
 -- ---- moves
@@ -53,29 +39,23 @@ module _ {A B : Type 0} (R : B → A → B → A → Type 0) (xs zs xs' zs' : Li
   pair_left k x u below =
       let a = left.count in
       let b = left.lent in
-      subst (λ (w : B). R w (get_or (xs ++ zs) k x) (get_or (us' ++ vs') k u) (get_or (xs' ++ zs') k x))
-      (sym (left_at us vs k u (omega (arith, same))))
-      (subst (λ (y : A). R (get_or us k u) y (get_or (us' ++ vs') k u) (get_or (xs' ++ zs') k x))
-      (sym (left_at xs zs k x below))
-      (subst (λ (w : B). R (get_or us k u) (get_or xs k x) w (get_or (xs' ++ zs') k x))
-      (sym (left_at us' vs' k u (omega (arith, same, b))))
-      (subst (λ (y : A). R (get_or us k u) (get_or xs k x) (get_or us' k u) y)
-      (sym (left_at xs' zs' k x (omega (arith, a)))) (left.moved k x u below))))
+      rw (
+        get_or_append_left us vs u k (omega (arith, same)),
+        get_or_append_left xs zs x k below,
+        get_or_append_left us' vs' u k (omega (arith, same, b)),
+        get_or_append_left xs' zs' x k (omega (arith, a)),
+      ) (left.moved k x u below)
 
   pair_right : (k : ℕ) (x : A) (u : B) → length xs ≤ k → k < length (xs ++ zs) →
       R (get_or (us ++ vs) k u) (get_or (xs ++ zs) k x) (get_or (us' ++ vs') k u) (get_or (xs' ++ zs') k x)
   pair_right k x u above near =
       let n = length xs in
-      let j = k - n in
-      subst (λ (w : B). R w (get_or (xs ++ zs) k x) (get_or (us' ++ vs') k u) (get_or (xs' ++ zs') k x))
-      (sym (right_at us vs k u n same above))
-      (subst (λ (y : A). R (get_or vs j u) y (get_or (us' ++ vs') k u) (get_or (xs' ++ zs') k x))
-      (sym (right_at xs zs k x n refl above))
-      (subst (λ (w : B). R (get_or vs j u) (get_or zs j x) w (get_or (xs' ++ zs') k x))
-      (sym (right_at us' vs' k u n lent_left above))
-      (subst (λ (y : A). R (get_or vs j u) (get_or zs j x) (get_or vs' j u) y)
-      (sym (right_at xs' zs' k x n left.count above))
-      (right.moved j x u (omega (arith, length-append xs zs))))))
+      rw (
+        get_or-append_right us vs n k u same above,
+        get_or-append_right xs zs n k x refl above,
+        get_or-append_right us' vs' n k u lent_left above,
+        get_or-append_right xs' zs' n k x left.count above,
+      ) (right.moved (k - n) x u (omega (arith, length-append xs zs)))
 
   pub moved_join : PairsMoved R (us ++ vs) (xs ++ zs) (us' ++ vs') (xs' ++ zs')
   moved_join = record {
@@ -87,9 +67,10 @@ module _ {A B : Type 0} (R : B → A → B → A → Type 0) (xs zs xs' zs' : Li
     ];
     others = λ k u far.
         let above : length xs ≤ k = omega (arith, length-append xs zs) in
-        right_at us' vs' k u (length xs) lent_left above
-        ∙ (right.others (k - length xs) u (omega (arith, length-append xs zs))
-        ∙ sym (right_at us vs k u (length xs) same above));
+        rw (
+          get_or-append_right us' vs' (length xs) k u lent_left above,
+          get_or-append_right us vs (length xs) k u same above,
+        ) (right.others (k - length xs) u (omega (arith, length-append xs zs)));
   }
 
 -- ---- moves after moves

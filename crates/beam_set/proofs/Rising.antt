@@ -34,31 +34,31 @@ ends_rise list rising = λ u i j d first within before. elim (cases_lt i j) [
 ]
 
 -- a pulse that ends too early is not near
-early_is_far : (within u : ℕ) (x : Candidate) → is_before (u - within) x ≡ true → is_near within u x ≡ false
-early_is_far within u (Pulse e d w s) before =
-    let early : e < u - within = ltb-true e (u - within) before in
-    lt-leb (abs_diff u e) within (omega (arith, early))
-early_is_far within u (Fold d p m j f s) before = refl
+early_is_far : (within u v : ℕ) (x : Candidate) → v ≡ u - within → is_before v x ≡ true → is_near within u x ≡ false
+early_is_far within u v (Pulse e d w s) least before =
+    let early : e < v = ltb-true e v before in
+    lt-leb (abs_diff u e) within (omega arith)
+early_is_far within u v (Fold d p m j f s) least before = refl
 
 -- nor is a later one than one that does not end too early, and is not near
-later_is_far : (within u : ℕ) (x y : Candidate) → is_before (u - within) x ≡ false → is_near within u x ≡ false →
-    ((v : ℕ) → is_before v y ≡ true → is_before v x ≡ true) → is_near within u y ≡ false
-later_is_far within u x (Fold d p m j f s) late far follows = refl
-later_is_far within u (Pulse e d w s) (Pulse e' d' w' s') late far follows =
-    let from : u - within ≤ e = ltb-false e (u - within) late in
+later_is_far : (within u v : ℕ) (x y : Candidate) → v ≡ u - within → is_before v x ≡ false →
+    is_near within u x ≡ false → ((v : ℕ) → is_before v y ≡ true → is_before v x ≡ true) → is_near within u y ≡ false
+later_is_far within u v x (Fold d p m j f s) least late far follows = refl
+later_is_far within u v (Pulse e d w s) (Pulse e' d' w' s') least late far follows =
+    let from : v ≤ e = ltb-false e v late in
     let apart : within < abs_diff u e = leb-false (abs_diff u e) within far in
     let after : e < e' + 1 = ltb-true e (e' + 1) (follows (e' + 1) (lt-ltb e' (e' + 1) (omega arith))) in
-    lt-leb (abs_diff u e') within (omega (arith, from, apart, after))
-later_is_far within u (Fold d p m j f s) (Pulse e d' w s') late far follows =
+    lt-leb (abs_diff u e') within (omega arith)
+later_is_far within u v (Fold d p m j f s) (Pulse e d' w s') least late far follows =
     absurd (false≢true (follows (e + 1) (lt-ltb e (e + 1) (omega arith))))
 
-module _ (list : List Candidate) (within u n : ℕ) (rise : EndsRise list)
-    (point : IsPartitionPoint (λ c. is_before (u - within) c ≡ true) (λ c. is_before (u - within) c ≡ false) list n)
+module _ (list : List Candidate) (within u v n : ℕ) (rise : EndsRise list) (least : v ≡ u - within)
+    (point : IsPartitionPoint (λ c. is_before v c ≡ true) (λ c. is_before v c ≡ false) list n)
   where
     -- none is near where all end too early
     pub none_late : length list ≤ n → false ≡ list_any (is_near within u) list
     none_late all = sym (list_any_none (is_near within u) list (λ k d inside.
-        early_is_far within u (get_or list k d) (point.0 k d (omega arith) (omega (arith, inside, all)))))
+        early_is_far within u v (get_or list k d) least (point.0 k d (omega arith) (omega (arith, inside, all)))))
 
     -- the first of the others is near, or none is
     pub first_tells : (x : Candidate) → n < length list → x ≡ get_or list n x →
@@ -70,11 +70,9 @@ module _ (list : List Candidate) (within u n : ℕ) (rise : EndsRise list)
             (ap (is_near within u) (sym is) ∙ near))
         decide false far = far ∙ sym (list_any_none (is_near within u) list (λ k d within_list.
             elim (cases_lt k n) [
-              | inl below ↦ early_is_far within u (get_or list k d) (point.0 k d (omega arith) below)
+              | inl below ↦ early_is_far within u v (get_or list k d) least (point.0 k d (omega arith) below)
               | inr above ↦
                   let at : x ≡ get_or list n d = get_or_read list n x inside is d in
-                  let late : is_before (u - within) x ≡ false =
-                  ap (is_before (u - within)) at ∙ point.1 n d (omega arith) inside in
-                  later_is_far within u x (get_or list k d) late far (λ v before.
-                  ap (is_before v) at ∙ rise v n k d above within_list before)
+                  later_is_far within u v x (get_or list k d) least (rw at (point.1 n d (omega arith) inside)) far
+                  (λ v before. ap (is_before v) at ∙ rise v n k d above within_list before)
             ]))

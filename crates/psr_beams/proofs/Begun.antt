@@ -165,12 +165,10 @@ module _ (s : SettingsSeen) (name : List ℕ) (old : FeederSpace) (starts : s.st
       (is_calm before → HoldsAll (told before) (names_at (at_rest old)) → bad f ≢ bad fault.ReadFault) →
       stop ≡ stop_of_header_at beam f → FailsHeader told is_calm faults name beam before after stop
   fails told is_calm faults beam before after f stop r broke read serves is =
-      subst (λ (x : Stop). FailsHeader told is_calm faults name beam before after x) (sym is) (record {
+      rw is (record {
         read = retyped told is_calm faults (bad f ≡ bad fault.ReadFault) (stop_of_header_at beam f ≡ ReadFault) before
             after (fails_there beam f) (fails_back beam f) read;
-        serves = λ calm there e. serves calm
-            (subst (HoldsAll (told before)) (sym plan.files) (holds_one name (told before) there))
-            (fails_back beam f e);
+        serves = λ calm there e. serves calm (rw plan.files (holds_one name (told before) there)) (fails_back beam f e);
         says = says (told before) beam f r;
         unread = unread (told before) (told after) beam f r;
         broke = λ e. breaks (told before) (is_calm before) (told after) (broke (fails_back beam f e));
@@ -186,8 +184,7 @@ module _ {I : Type 0} (told : I → Told) (is_open is_calm : I → Type 0) (faul
     lent = length-set mid n new ∙ all.lent;
     each = λ k x below. all_set mid new n within
         (λ j. ReadsHeader told is_calm faults (beam_name s j) (get_or before j x)) x (λ j less. all.each j x less)
-        (subst (λ z. ReadsHeader told is_calm faults (beam_name s n) z new)
-        (get_or_default mid n old x within ∙ all.others n x (omega arith)) read) k below;
+        (rw (get_or_default mid n old x within ∙ all.others n x (omega arith)) at read) k below;
     others = λ k x over. others_stand mid new n within k x (λ e. omega (arith, e, over))
         ∙ all.others k x (omega (arith, over));
   }
@@ -201,15 +198,13 @@ module _ {I : Type 0} (told : I → Told) (is_open is_calm : I → Type 0) (faul
     each = λ k x below. one_more (λ j. SlotBegun told is_open s (beam_name s j) (get_or before j x)
         (get_or (set mid n new) j x) (get_or more j None)) n
         (λ j less.
-        let Was = SlotBegun told is_open s (beam_name s j) (get_or before j x) in
-        subst (λ z. Was z (get_or more j None))
-        (sym (others_stand mid new n within j x (λ e. omega (arith, e, less))))
-        (subst (Was (get_or mid j x)) (sym (kept_at slots more (Some space) n all.many grown None j less))
-        (all.each j x less)))
-        (subst (SlotBegun told is_open s (beam_name s n) (get_or before n x) (get_or (set mid n new) n x))
-        (sym (new_at slots more (Some space) n all.many grown None))
-        (subst (λ z. HasBegun told is_open s (beam_name s n) (get_or before n x) z space)
-        (sym (get_or-set_same mid n new x within))
-        (subst (λ z. HasBegun told is_open s (beam_name s n) z new space)
-        (get_or_default mid n old x within ∙ read.others n x (omega arith)) is))) k below;
+        rw (
+          others_stand mid new n within j x (λ e. omega (arith, e, less)),
+          kept_at slots more (Some space) n all.many grown None j less,
+        ) (all.each j x less))
+        (rw (
+          new_at slots more (Some space) n all.many grown None,
+          get_or-set_same mid n new x within,
+          sym (get_or_default mid n old x within ∙ read.others n x (omega arith)),
+        ) is) k below;
   }

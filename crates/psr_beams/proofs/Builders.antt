@@ -148,9 +148,9 @@ module _ {I : Type 0} {told : I → Told} {is_calm : I → Type 0} {faults : I �
   pub for_settings : (P : SettingsSeen → List (List ℕ) → Type 0) →
       ((files : List (List ℕ)) → AreBeamsTold (told_at told before) s.names files → P s files) →
       ForBeams words (told_at told before) P
-  for_settings P holds t files says are = subst
-      (λ (u : SettingsSeen). (fs : List (List ℕ)) → AreBeamsTold (told_at told before) u.names fs → P u fs)
-      (run.once searching_beams words s t run.says says) holds files are
+  for_settings P holds t files says are =
+      for_said (λ u. (fs : List (List ℕ)) → AreBeamsTold (told_at told before) u.names fs → P u fs) holds t says files
+      are
 
   pub inside : (k : ℕ) → k < length s.names → k < length before
   inside k below = let enough = run.enough in omega (arith, below, enough)
@@ -162,8 +162,7 @@ module _ {I : Type 0} {told : I → Told} {is_calm : I → Type 0} {faults : I �
   pub told_there : (k : ℕ) (x : I) → k < length s.names → (file : List ℕ) →
       (told_at told before k).bytes_under (beam_name s k) ≡ Some file →
       (told (get_or before k x)).bytes_under (beam_name s k) ≡ Some file
-  told_there k x below file at = subst (λ (t : Told). t.bytes_under (beam_name s k) ≡ Some file)
-      (seen_there told nothing_told before k x (inside k below)) at
+  told_there k x below file is = rw (seen_there told nothing_told before k x (inside k below)) at is
 
   -- and what holds of it there holds of it
   pub of_beam : (k : ℕ) → k < length s.names → (P : List ℕ → Type 0) →

@@ -6,7 +6,6 @@ use Rattle.psr_base.specs.Count.{Rose}
 use Rattle.search_words.specs.Settings.{SettingsSeen}
 use Rattle.psr_base.specs.Written.{Noted}
 use Rattle.dada_header.specs.declared.faults.HeaderFault.{HeaderFault}
-use Rattle.dada_header.specs.Faults.{IsHeaderRefusal}
 use Rattle.disk_feeder.specs.declared.answers.HeaderCause.TheVariants.{Text, Fields}
 use Rattle.run_outcome.specs.declared.stop.Stop.{Stop}
 use Rattle.run_outcome.specs.declared.stop.Stop.TheVariants.{Words, Value, Header, Plan, Recording, Memory, ReadFault, Gap, TooLong, TooMany, SinkFault, FileFault}
@@ -164,9 +163,8 @@ module _ (is_calm : ℕ → Type 0) (words : List (List ℕ)) (seen : BeamsSeen)
       | inr under ↦
           let same : k ≡ beam = omega (arith, over, under) in
           let fault_is : other ≡ fault = one_refusal (r.file_of k) other fault
-          (is.refused (r.file_of k) (r.told k over))
-          (subst (λ j. IsHeaderRefusal (r.file_of j) fault) (sym same) r.refused) in
-          ap (λ j. Header j (Text other)) same ∙ ap (λ f. Header beam (Text f)) fault_is
+          (is.refused (r.file_of k) (r.told k over)) (rw same r.refused) in
+          rw (same, fault_is) refl
     ]
   ])
   names (Header k (Fields other)) e (inl is) = absurd (all_refused is.1.texts)
@@ -190,7 +188,7 @@ module _ (is_calm : ℕ → Type 0) (words : List (List ℕ)) (seen : BeamsSeen)
           (stop ≡ Header beam (Text fault)) ⊎ (m ≡ 5) → IsAnsweredAt seen (Header beam (Text fault))
       by_name stop status line (inl is) = record {
         status = inl (status ∙ ap status_of is);
-        line = λ e. subst (λ x. Noted (note_of x) seen.notes_before seen.notes_after) is line;
+        line = λ e. rw is at line;
       }
       by_name stop status line (inr five) =
           record { status = inr five; line = λ e. absurd (omega (arith, five, e)) }

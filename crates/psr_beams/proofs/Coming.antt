@@ -11,7 +11,6 @@ use Rattle.disk_feeder.specs.Ends.{end_of}
 use Rattle.disk_feeder.specs.declared.feeder.FeederSpace.{FeederSpace}
 use Rattle.disk_feeder.specs.Feeder.{plan_at, FeederRead}
 use Rattle.disk_feeder.specs.Feeding.{EndIs, IsWalkEnd, SealedAs}
-use Rattle.disk_feeder.specs.Filling.{HoldsAll}
 use Rattle.disk_feeder.specs.Plan.{Plan, stream_of, AreTold}
 use Rattle.disk_feeder.specs.Resting.{at_rest}
 use Rattle.beam_set.specs.declared.beam.Beam.{Beam}
@@ -58,7 +57,7 @@ module _ {I : Type 0} (told : I → Told) (is_calm : I → Type 0) (faults : I �
           calm = feed.calm;
         };
         serves = λ calm there. feed.serves calm
-            (subst (HoldsAll (told before)) (sym is.plan.files) (holds_one name (told before) there));
+            (rw is.plan.files (holds_one name (told before) there));
         walked = λ not file at.
             let now = subst (λ under. Under under file) (sym feed.names) at in
             let ended = walk_end (stream_of plan (file ∷ [])) _ _ end.feed (feed.sealed.known (file ∷ [])
@@ -75,8 +74,8 @@ module _ {I : Type 0} (told : I → Told) (is_calm : I → Type 0) (faults : I �
         held = λ n whole. answers.held s.search o n whole is.searches;
         known = λ n whole file at.
             let now = subst (λ under. Under under file) (sym feed.names) at in
-            let are = subst (λ ns. AreTold (told after) ns (file ∷ [])) (sym is.plan.files)
-            (one_told name file (told after) now) in
+            let are : AreTold (told after) plan.names (file ∷ []) =
+            rw is.plan.files (one_told name file (told after) now) in
             let count : length plan.starts ≡ 1 = ap length starts in
             let same = stream_is plan s file starts is.plan.limit in
             feed.walked n whole (file ∷ []) are 0 (omega (arith, count))

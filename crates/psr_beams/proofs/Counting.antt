@@ -1,9 +1,8 @@
 -- What the inputs of all beams counted, by the numbers of the beams.
-use Rattle.std.proofs.Common.{◌≡◌, ℕ, zero, suc, ◌<◌, ◌≤◌, List, [], ◌∷◌, length, get_or, slice_get, Option, None, refl, sym, ap, subst, ◌∙◌, inl, inr, arith}
-use Rattle.std.specs.Prelude.{IsSomeAnd}
+use Rattle.std.proofs.Common.{◌≡◌, ℕ, zero, suc, ◌<◌, ◌≤◌, List, [], ◌∷◌, length, get_or, slice_get, refl, sym, ap, ◌∙◌, inl, inr, arith}
 use Rattle.std.specs.Option.{option_map_or}
 use Rattle.std.proofs.lemmas.Bool.{cases_lt}
-use Rattle.std.proofs.lemmas.Option.{slice_get-get_or}
+use Rattle.std.proofs.lemmas.Option.{slice_get-get_or, slice_get_past}
 use Rattle.psr_base.specs.Count.{Rose}
 use Rattle.psr_base.specs.Inputs.{HasReadFrom}
 use Rattle.psr_base.specs.Told.{Told}
@@ -15,25 +14,19 @@ element [] k within = absurd (omega (arith, within))
 element (x ∷ xs) zero within = x
 element (x ∷ xs) (suc k) within = element xs k (omega (arith, within))
 
-past : {X : Type 0} (xs : List X) (k : ℕ) → length xs ≤ k → slice_get xs k ≡ None
-past [] k over = refl
-past (x ∷ xs) zero over = absurd (omega (arith, over))
-past (x ∷ xs) (suc k) over = past xs k (omega (arith, over))
-
 module _ {I : Type 0} where
   -- what is seen of a beam that is there
   pub seen_there : {V : Type 0} (f : I → V) (none : V) (xs : List I) (k : ℕ) (x : I) → k < length xs →
       option_map_or f (slice_get xs k) none ≡ f (get_or xs k x)
-  seen_there f none xs k x within = ap (λ (o : Option I). option_map_or f o none) (slice_get-get_or xs k x within)
+  seen_there f none xs k x within = rw (slice_get-get_or xs k x within) refl
 
   seen_past : {V : Type 0} (f : I → V) (none : V) (xs : List I) (k : ℕ) → length xs ≤ k →
       option_map_or f (slice_get xs k) none ≡ none
-  seen_past f none xs k over = ap (λ (o : Option I). option_map_or f o none) (past xs k over)
+  seen_past f none xs k over = rw (slice_get_past xs k over) refl
 
   pub calm_there : (is_calm : I → Type 0) (xs : List I) (k : ℕ) (x : I) → k < length xs → calm_at is_calm xs k →
       is_calm (get_or xs k x)
-  calm_there is_calm xs k x within calm =
-      subst (λ (o : Option I). IsSomeAnd o is_calm) (slice_get-get_or xs k x within) calm
+  calm_there is_calm xs k x within calm = rw (slice_get-get_or xs k x within) at calm
 
   -- inputs that stand are seen as before
   pub seen_still : {V : Type 0} (f : I → V) (none : V) (xs ys : List I) (k : ℕ) → length ys ≡ length xs →
@@ -50,7 +43,7 @@ module _ {I : Type 0} (told : I → Told) (is_calm : I → Type 0) (faults : I �
   -- ---- one beam
 
   pub stood : (P : Type 0) (x y : I) → ¬ P → y ≡ x → HasReadFrom told is_calm faults P x y
-  stood P x y not same = subst (λ z. HasReadFrom told is_calm faults P x z) (sym same) (record {
+  stood P x y not same = rw same (record {
     names = refl;
     count = omega arith;
     rose = λ p. absurd (not p);
@@ -76,7 +69,7 @@ module _ {I : Type 0} (told : I → Told) (is_calm : I → Type 0) (faults : I �
       record {
         names = b.names ∙ a.names;
         count = omega (arith, still, more);
-        rose = λ q. subst (λ n. Rose n (faults z)) still (b.rose q);
+        rose = λ q. rw (sym still) (b.rose q);
         quiet = λ n. b.quiet n ∙ still;
         calm = λ c. b.calm (a.calm c);
       }
@@ -122,6 +115,5 @@ module _ {I : Type 0} {told : I → Told} {is_calm : I → Type 0} {faults : I �
   rises k below did =
       let x = element before k below in
       let lent = all.lent in
-      subst (λ n. Rose n (faults_at faults after k)) (sym (seen_there faults 0 before k x below))
-      (subst (λ n. Rose (faults (get_or before k x)) n)
-      (sym (seen_there faults 0 after k x (omega (arith, below, lent)))) ((all.each k x).rose did))
+      rw (seen_there faults 0 before k x below, seen_there faults 0 after k x (omega (arith, below, lent)))
+      ((all.each k x).rose did)

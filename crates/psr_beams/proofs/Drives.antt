@@ -20,7 +20,7 @@ use Rattle.psr_beams.specs.Joined.{CanJoinAll, AreJoined}
 use Rattle.psr_beams.specs.Feeders.{AreRead, AreBegun}
 use Rattle.psr_beams.specs.Opened.{StopsOpening}
 use Rattle.psr_beams.specs.Ends.{NoneStops, EndsBeams}
-use Rattle.psr_beams.specs.Driven.{HaveCome, HaveBroken, ReadsAll, IsDriven}
+use Rattle.psr_beams.specs.Driven.{HaveCome, ReadsAll, IsDriven}
 use Rattle.psr_beams.proofs.OneFile.{only_start}
 use Rattle.psr_beams.proofs.Opening.{headers_there, are_headers, can_join}
 use Rattle.psr_beams.proofs.Running.{set_begins, have_come, have_broken}
@@ -69,8 +69,8 @@ module _ {I : Type 0} {told : I → Told} {is_open is_calm : I → Type 0} {faul
   pub headers_read : (k : ℕ) → k < length slice → IsSome (headers_in slice k)
   headers_read k within =
       let count = many in
-      subst (λ xs. IsSome (headers_in xs k)) (sym same)
-      (headers_there told is_open s ready.starts n before mid slots ready.begun reach k (omega (arith, within, count)))
+      rw same (headers_there told is_open s ready.starts n before mid slots ready.begun reach k
+      (omega (arith, within, count)))
 
   -- ---- it was not opened
 
@@ -83,8 +83,7 @@ module _ {I : Type 0} {told : I → Told} {is_open is_calm : I → Type 0} {faul
     record {
       headers = headers_in slots;
       read = reads_all;
-      stops = subst (λ m. StopsOpening s.search (headers_in slots) m stop) many
-          (subst (λ xs. StopsOpening s.search (headers_in xs) (length slice) stop) same stops);
+      stops = rw (sym many, sym same) stops;
     },
     refl,
   ))
@@ -93,8 +92,7 @@ module _ {I : Type 0} {told : I → Told} {is_open is_calm : I → Type 0} {faul
 
   module _ {o : Observation} (accepted : AreOfOne (headers_in slice) (length slice) o) where
     of_one : AreOfOne (headers_in slots) n o
-    of_one = subst (λ m. AreOfOne (headers_in slots) m o) many
-        (subst (λ xs. AreOfOne (headers_in xs) (length slice) o) same accepted)
+    of_one = rw (sym many, sym same) accepted
 
     pub can_open : LaterHeadersAgree → CanJoinAll (told_at told mid) s o n slots
     can_open law =
@@ -108,8 +106,8 @@ module _ {I : Type 0} {told : I → Told} {is_open is_calm : I → Type 0} {faul
       module _ {after : List I} {ends ended : List (Option BeamEnd)}
           (answers : SetAnswers told is_calm faults beams mid after ends) (are : ended ≡ ends) where
         came : HaveCome told is_calm faults s o n mid after ended
-        came = subst (λ xs. HaveCome told is_calm faults s o n mid after xs) (sym are)
-            (have_come told is_open s o ready.starts n before mid reach slots ready.begun beams joined is_calm faults
+        came = rw are (have_come told is_open s o ready.starts n before mid reach slots ready.begun beams joined is_calm
+            faults
             after ends answers)
 
         pub data_found :
@@ -128,8 +126,7 @@ module _ {I : Type 0} {told : I → Told} {is_open is_calm : I → Type 0} {faul
           fits = fits;
           ends = ended;
           come = came;
-          broken = subst (λ xs. HaveBroken told s n before mid after xs) (sym are)
-              (have_broken told is_open s o ready.starts n before mid reach slots ready.begun beams joined is_calm
-              faults after ends answers);
+          broken = rw are (have_broken told is_open s o ready.starts n before mid reach slots ready.begun beams joined
+              is_calm faults after ends answers);
           ended = at;
         }))

@@ -12,7 +12,7 @@ use Rattle.run_outcome.specs.declared.stop.Stop.{Stop}
 use Rattle.run_outcome.specs.Ends.{WordsSayOnce}
 use Rattle.psr_beams.specs.Words.{SayBeams, searching_beams, is_beam_count, within_in, more_in}
 use Rattle.psr_beams.specs.Driven.{IsDriven}
-use Rattle.psr_beams.specs.Ends.{EndsBeams, Leaves}
+use Rattle.psr_beams.specs.Ends.{Leaves}
 use Rattle.psr_beams.proofs.Builders.{Over}
 use Rattle.psr_beams.proofs.Stopped.{reading_ends, not_opened}
 use Rattle.psr_beams.proofs.Through.{through}
@@ -53,9 +53,7 @@ module _ {I : Type 0} (told : I → Told) (is_calm : I → Type 0) (faults : I �
   driven_leaves rows continue agree within more a b stop (inr (inl (early, is, r, same))) =
       subst LeftAt (sym is) (not_opened run rows r.read same early r.stops)
   driven_leaves rows continue agree within more a b stop (inr (inr g)) =
-      let by_within = subst (λ w. EndsBeams g.observation s.search w more g.ends out out' stop) a g.ended in
-      through run rows continue agree g.read g.accepted g.fits g.come out out' g.broken stop
-      (subst (λ m. EndsBeams g.observation s.search (within_in words) m g.ends out out' stop) b by_within)
+      through run rows continue agree g.read g.accepted g.fits g.come out out' g.broken stop (rw (a, b) at g.ended)
 
   -- ---- inputs past the beams
 

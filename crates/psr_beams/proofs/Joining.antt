@@ -13,7 +13,7 @@ use Rattle.search_words.specs.Settings.{SettingsSeen}
 use Rattle.search_engine.specs.Engine.{EngineState, most_fed}
 use Rattle.ring_words.specs.declared.shape.RingShape.{RingShape}
 use Rattle.disk_feeder.specs.declared.feeder.FeederSpace.{FeederSpace}
-use Rattle.disk_feeder.specs.Feeder.{HasPlan, IsBegun, HasOpenFile, headers_of, plan_at, block_size, AcceptsAt, AllAccepted, FeederFeeds, FeederRead, KeepsBegun}
+use Rattle.disk_feeder.specs.Feeder.{HasPlan, IsBegun, headers_of, plan_at, block_size, AcceptsAt, AllAccepted, FeederFeeds, KeepsBegun}
 use Rattle.disk_feeder.specs.Feeding.{header_entries}
 use Rattle.disk_feeder.specs.Resting.{at_rest}
 use Rattle.beam_set.specs.declared.space.BeamSpace.{BeamSpace}
@@ -80,7 +80,7 @@ module _ (told : Told) (s : SettingsSeen) (o : Observation) (name : List ℕ) (f
             engine = sp.engine;
             shape = beam_shape s;
             header = sp.text;
-            space_is = subst (λ (r : RingShape). IsBeamSpace sp.engine r sp.text space) sp.shape_is sp.space_is;
+            space_is = rw sp.shape_is at sp.space_is;
             feeds = record {
               first = ap (λ hs. slice_get hs 0) is.kept.headers ∙ sp.header_is;
               feeds = is.feeds told can.begun all_accepted;
@@ -113,12 +113,10 @@ module _ (told : Told) (s : SettingsSeen) (o : Observation) (name : List ℕ) (f
             opened = sp.engine_is.opened;
             stands = sp.engine_is.stands;
           };
-          plan = subst (λ (f : FeederSpace). HasPlan (at_rest f) (name ∷ []) s.starts s.size s.max_bytes) (sym fed)
-              new_plan;
+          plan = rw fed new_plan;
         };
-        file = λ opened. is.kept.reading (subst (λ (f : FeederSpace). HasOpenFile (at_rest f)) fed opened);
-        reads_on = λ before now was.
-            subst (λ (f : FeederSpace). FeederRead before now (at_rest f)) (sym fed) (is.kept.reads_on before now was);
+        file = λ opened. is.kept.reading (rw fed at opened);
+        reads_on = λ before now was. rw fed (is.kept.reads_on before now was);
       }
 
 -- ---- the last engine and the first feeder are taken

@@ -5,7 +5,7 @@ use Rattle.std.proofs.lemmas.List.{drop_more, get_or-map}
 use Rattle.search_words.specs.Transfers.{AreTransferStarts}
 use Rattle.psr_base.specs.Told.{Told}
 use Rattle.search_words.specs.Settings.{SettingsSeen}
-use Rattle.stream_model.specs.Walk.{FileStream, data_of, data_between, transfer_data}
+use Rattle.stream_model.specs.Walk.{data_of, data_between, transfer_data}
 use Rattle.stream_model.specs.WalkLaws.{IsIn}
 use Rattle.disk_feeder.specs.Feeding.{BreaksReading, IsCutAt}
 use Rattle.disk_feeder.specs.Filling.{HoldsAll}
@@ -31,8 +31,7 @@ one_told name file told is = record { count = refl; each = one_name name file to
 pub one_needed : {Needed : ℕ → Type 0} (names : List (List ℕ)) (name file : List ℕ) (told : Told) → names ≡ name ∷ [] →
     told.bytes_under name ≡ Some file → AreToldAt Needed told names (file ∷ [])
 one_needed {Needed} names name file told same is =
-    subst (λ (ns : List (List ℕ)). AreToldAt Needed told ns (file ∷ [])) (sym same)
-    (record { count = refl; each = λ k below needed. one_name name file told is k below })
+    rw same (record { count = refl; each = λ k below needed. one_name name file told is k below })
 
 -- a source of one file has its name for that of the one transfer's first file
 pub first_name_is : (source : Source) (name : List ℕ) → source.starts.now ≡ 0 ∷ [] →
@@ -104,11 +103,8 @@ pub one_broken : (plan : Plan) (s : SettingsSeen) (name file : List ℕ) → pla
 one_broken plan s name file names starts limit before after is is_calm at size blocks b =
     let same = stream_is plan s file starts limit in
     one_left s name file before after at size blocks
-    (subst (λ (w : FileStream). IsCutAt w at size blocks) same
-    (b.cut (file ∷ []) (one_needed plan.names name file after names is))) at.is_open
-    (subst (λ (w : FileStream). BreaksIf at.is_open (name ∷ []) w before after at) same
-    (subst (λ (ns : List (List ℕ)). BreaksIf at.is_open ns (stream_of plan (file ∷ [])) before after at) names
-    (b.stood (file ∷ []) (one_needed plan.names name file after names is))))
+    (rw same at (b.cut (file ∷ []) (one_needed plan.names name file after names is))) at.is_open
+    (rw (names, same) at (b.stood (file ∷ []) (one_needed plan.names name file after names is)))
 
 -- the one start of a transfer
 pub only_start : (starts : List ℕ) (count : ℕ) → AreTransferStarts starts count → length starts ≡ 1 → starts ≡ 0 ∷ []

@@ -1,5 +1,5 @@
 -- Beams whose headers were read and accepted can be run.
-use Rattle.std.proofs.Common.{◌≡◌, ◌⊎◌, ℕ, zero, suc, ◌<◌, ◌≤◌, inl, inr, Bool, true, false, List, [], ◌∷◌, length, get_or, Option, Some, None, Result, Ok, Err, refl, sym, ap, subst, ◌∙◌, arith}
+use Rattle.std.proofs.Common.{◌≡◌, ◌⊎◌, ℕ, zero, suc, ◌<◌, ◌≤◌, inl, inr, Bool, true, false, List, [], ◌∷◌, length, get_or, Option, Some, None, Result, Ok, Err, refl, ap, ◌∙◌, arith}
 use Rattle.std.specs.Prelude.{IsSome, ◌==◌, if◌then◌else◌}
 use Rattle.std.proofs.lemmas.Bool.Decides.{nat_tests}
 use Rattle.psr_base.specs.Told.{Told, nothing_told}
@@ -108,8 +108,7 @@ module _ {I : Type 0} (told : I → Told) (is_open : I → Type 0) (s : Settings
     each = λ k x h within at file is.
         header_said (beam_name s k) (get_or before k x) (get_or mid k x) (get_or slots k None) h file
         (begun.each k x within) at
-        (subst (λ (under : List ℕ → Option (List ℕ)). under (beam_name s k) ≡ Some file)
-        (sym (read.each k x within).read.names) is);
+        (rw (read.each k x within).read.names is);
   }
 
   -- ---- to open
@@ -131,8 +130,7 @@ module _ {I : Type 0} (told : I → Told) (is_open : I → Type 0) (s : Settings
     each = λ k within.
         let there : k < length lent = omega (arith, within, enough) in
         let x = element lent k there in
-        subst (λ t. CanJoinSlot t s o (beam_name s k) (get_or slots k None))
-        (sym (seen_there told nothing_told lent k x there))
+        rw (seen_there told nothing_told lent k x there)
         (can_slot o (beam_name s k) (get_or before k x) (get_or lent k x) (get_or slots k None) (begun.each k x within)
         (all_say law (headers_in slots) count o one (headers_there count before lent slots begun enough 0 some) k
         within));

@@ -114,7 +114,7 @@ module _ (files : List (List ℕ)) where
   no_first fault a r =
       let same = one_header a.header r.header (beam_file files 0) a.is_header r.has in
       has_observation (fields_of r.header.text) a.observation fault
-      (subst (λ (h : HeaderText). observation_of (fields_of h.text) ≡ Ok a.observation) same a.is_observation) r.cause
+      (rw same at a.is_observation) r.cause
 
   no_later : (stop : Stop) → AreAccepted files → RefusesLater files stop → ⊥
   no_later stop a r = some_once r.beam stop (a.later r.beam r.later r.there) r.refused

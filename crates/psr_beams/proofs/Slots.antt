@@ -1,5 +1,5 @@
 -- Slots that were filled beside each other.
-use Rattle.std.proofs.Common.{◌≡◌, ℕ, ◌<◌, ◌++◌, All, None, Some, List, length, get_or, take, drop, sym, ap, subst, ◌∙◌}
+use Rattle.std.proofs.Common.{◌≡◌, ℕ, ◌<◌, ◌++◌, All, None, Some, List, length, get_or, take, drop, sym}
 use Rattle.std.specs.Prelude.{Option, IfSome, IsSome, IsSomeAnd}
 use Rattle.std.proofs.Math.Seq.{take-append_seam}
 use Rattle.std.proofs.lemmas.List.{get_or_default}
@@ -13,7 +13,7 @@ module _ {X : Type 0} (P : X → Type 0) where
       ((k : ℕ) → k < length slots → IfSome (get_or slots k None) P) → All IsSome slots →
       All (λ slot. IsSomeAnd slot P) slots
   all_there slots filled some k d within =
-      subst (λ slot. IsSomeAnd slot P) (get_or_default slots k None d within)
+      rw (sym (get_or_default slots k None d within))
       (is_there (get_or slots k None) (some k None within) (filled k within))
 
   -- the slots are written back
@@ -23,8 +23,5 @@ module _ {X : Type 0} (P : X → Type 0) where
       All (λ slot. IsSomeAnd slot P) (take (length empty) (slots ++ drop (length slots) empty))
   filled empty slots count full some =
       let same : take (length empty) (slots ++ drop (length slots) empty) ≡ slots =
-      ap (λ n. take n (slots ++ drop (length slots) empty)) (sym count)
-      ∙ take-append_seam slots (drop (length slots) empty) in
-      let there = all_there slots (λ k within. full k (subst (λ n. k < n) count within))
-      (subst (λ xs. All IsSome xs) same some) in
-      subst (λ xs. All (λ slot. IsSomeAnd slot P) xs) (sym same) there
+      rw (sym count) (take-append_seam slots (drop (length slots) empty)) in
+      rw same (all_there slots (λ k within. full k (rw count at within)) (rw same at some))

@@ -1,8 +1,6 @@
 -- A search of beams that stops before its first turn: at a header that cannot be read, or where it is not opened.
 use Rattle.std.proofs.Common.{◌≡◌, ◌≢◌, ◌⊎◌, ℕ, ◌<◌, ◌≤◌, List, length, get_or, refl, sym, ap, subst, ◌∙◌, inl, inr, Option, Some, None, Ok, arith}
-use Rattle.std.specs.Prelude.{IsSome}
 use Rattle.std.proofs.lemmas.Bool.{cases_lt}
-use Rattle.psr_base.specs.Inputs.{HasReadFrom}
 use Rattle.psr_base.specs.Told.{Told, nothing_told}
 use Rattle.psr_base.specs.Written.{SinkSeen}
 use Rattle.dada_model.specs.Fields.{HeaderText, header_of, fields_of}
@@ -17,10 +15,9 @@ use Rattle.run_outcome.specs.Texts.{status_of}
 use Rattle.psr_beams.specs.Seen.{told_at}
 use Rattle.dada_header.specs.Faults.{IsHeaderRefusal}
 use Rattle.run_outcome.specs.Firsts.{HasHeader, RefusesFields}
-use Rattle.disk_feeder.specs.Front.{BreaksAt}
 use Rattle.psr_beams.specs.Files.{ForSettings, OfBeam, beam_name, header_read}
 use Rattle.psr_beams.specs.Refusals.{later_stop, StopsByHeader}
-use Rattle.psr_beams.specs.EachBeam.{HaveHeadersAt, RefusesTextAt, AreOfOneAt, RefusesLaterAt}
+use Rattle.psr_beams.specs.EachBeam.{HaveHeadersAt, AreOfOneAt, RefusesLaterAt}
 use Rattle.psr_beams.specs.Stops.{SaysOfBeams}
 use Rattle.psr_beams.specs.Outcome.{IsHeaderRead}
 use Rattle.psr_beams.specs.Judged.{AreOfOne, RefusesZero, RefusesOne, StopsJudging}
@@ -93,9 +90,7 @@ module _ {I : Type 0} {told : I → Told} {is_calm : I → Type 0} {faults : I �
                 stood told is_calm faults (reading_failed stop r.beam k) _ _ not (r.others k x more)
             | inr under ↦
                 let same : r.beam ≡ k = omega (arith, over, under) in
-                let P : ℕ → Type 0 = λ j. HasReadFrom told is_calm faults (reading_failed stop r.beam j)
-                (get_or before j x) (get_or after j x) in
-                subst P same (retyped told is_calm faults (stop ≡ ReadFault) (reading_failed stop r.beam r.beam) _ _
+                rw (sym same) (retyped told is_calm faults (stop ≡ ReadFault) (reading_failed stop r.beam r.beam) _ _
                 (λ e. (refl, e)) (λ p. p.1) (r.fails x).read)
           ]
         ];
@@ -125,7 +120,7 @@ module _ {I : Type 0} {told : I → Told} {is_calm : I → Type 0} {faults : I �
         | inr under ↦
             let same : r.beam ≡ k = omega (arith, over, under) in
             let x = one_there run r.beam r.there in
-            subst (ReadsNone after r.lent) same (by_cause x ((r.fails x).unread refl))
+            rw (sym same) (by_cause x ((r.fails x).unread refl))
       ]
     ]
       where
@@ -146,7 +141,7 @@ module _ {I : Type 0} {told : I → Told} {is_calm : I → Type 0} {faults : I �
         let said = (r.fails (one_there run r.beam r.there)).says in
         at_files run (all_read (Header file (Text fault)) r) same (Header file (Text fault)) (omega arith) (omega arith)
         (λ e. omega (arith, e)) (λ e. omega (arith, e)) (λ e. omega (arith, e)) (λ k p. let e = p.1 in cc)
-        (subst (λ k. RefusesTextAt (told_at told before) s k fault) (sym said.0) (record {
+        (rw said.0 (record {
           there = r.there;
           refused = of_beam run r.beam r.there (λ bytes. IsHeaderRefusal bytes fault) (λ y. (r.fails y).says.1);
           earlier = texts (Header file (Text fault)) r;
@@ -158,22 +153,19 @@ module _ {I : Type 0} {told : I → Told} {is_calm : I → Type 0} {faults : I �
         let lent = r.lent in
         let within = inside run r.beam there in
         let x = one_there run r.beam there in
-        let name = beam_name s r.beam in
         at_fault run (all_read ReadFault r) same r.beam there (refl, refl)
         (λ k less p. let e = p.0 in omega (arith, e, less))
         (λ calm holds. (r.fails x).serves (calm_there is_calm before r.beam x within calm)
-        (subst (λ (t : Told). IsSome (t.bytes_under name)) (seen_there told nothing_told before r.beam x within) holds)
-        refl)
+        (rw (seen_there told nothing_told before r.beam x within) at holds) refl)
         (texts ReadFault r)
         (inl (record {
           headers = texts ReadFault r;
           read = λ k less. earlier_left ReadFault r k less (one_there run k (omega (arith, less, there)));
-          broke = λ file at.
-              subst (λ t. BreaksAt name file t (told_at told after r.beam))
-              (sym (seen_there told nothing_told before r.beam x within))
-              (subst (λ t. BreaksAt name file (told (get_or before r.beam x)) t)
-              (sym (seen_there told nothing_told after r.beam x (omega (arith, within, lent))))
-              ((r.fails x).broke refl file (told_there run r.beam x there file at)));
+          broke = λ file is.
+              rw (
+                seen_there told nothing_told before r.beam x within,
+                seen_there told nothing_told after r.beam x (omega (arith, within, lent)),
+              ) ((r.fails x).broke refl file (told_there run r.beam x there file is));
           others = λ k more. seen_still told nothing_told before after k lent (λ y. r.others k y more);
         }))
     reading_ends same stop r = absurd (r.fails (one_there run r.beam r.there)).says
@@ -286,12 +278,11 @@ module _ {I : Type 0} {told : I → Told} {is_calm : I → Type 0} {faults : I �
       | inl fields ↦
           subst LeftAt (sym fields.1) (refused (Header r.beam (Fields fields.0)) (omega arith) (omega arith)
           (λ e. omega (arith, e)) (λ e. omega (arith, e)) (λ e. omega (arith, e))
-          (inr (subst (λ x. RefusesLaterAt (told_at told before) s r.beam x) fields.1
-          (later_refused stop (o, first, r)))))
+          (inr (rw fields.1 at (later_refused stop (o, first, r)))))
       | inr gap ↦
           subst LeftAt (sym gap.1) (refused (Gap r.beam o.obs_offset gap.0) (omega arith) (omega arith)
           (λ e. omega (arith, e)) (λ e. omega (arith, e)) (λ e. omega (arith, e))
-          (subst (λ x. RefusesLaterAt (told_at told before) s r.beam x) gap.1 (later_refused stop (o, first, r))))
+          (rw gap.1 at (later_refused stop (o, first, r))))
     ]
 
     plan_refused : (stop : Stop) → RefusesTheirPlan s.search headers n stop → LeftAt stop

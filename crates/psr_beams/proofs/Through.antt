@@ -2,7 +2,7 @@
 use Rattle.std.proofs.Common.{◌≡◌, ◌≢◌, ◌⊎◌, ℕ, ◌<◌, ◌≤◌, List, [], length, map, get_or, refl, sym, ap, subst, ◌∙◌, inl, inr, Option, Some, None, lit<, arith}
 use Rattle.std.specs.Prelude.{IsSome}
 use Rattle.std.proofs.lemmas.Bool.{cases_lt}
-use Rattle.std.proofs.lemmas.List.{get_or-map, length-map}
+use Rattle.std.proofs.lemmas.List.{get_or-map, get_or_past, length-map}
 use Rattle.psr_base.specs.Inputs.{HasReadFrom}
 use Rattle.psr_base.specs.Told.{Told, nothing_told}
 use Rattle.psr_base.specs.Written.{SinkSeen, WroteAll, WroteFront}
@@ -33,14 +33,14 @@ use Rattle.psr_beams.specs.Stops.{SaysOfBeams}
 use Rattle.psr_beams.specs.Outcome.{IsTooLong, ReadsBeams}
 use Rattle.psr_beams.specs.Judged.{AreOfOne}
 use Rattle.psr_beams.specs.Driven.{HasCome, HasSlotCome, HaveCome, SlotBreaks, HaveBroken, ReadsAll}
-use Rattle.psr_beams.specs.Ends.{Ends, stop_at_data, stop_at_header, slot_stop, stop_in, counted_in, StopsBy, NoneStopsBy, StopsFirst, NoneStops, CountsTooMany, NoneCountsTooMany, WritesFound, EndsWritten, EndsBeams, Leaves}
+use Rattle.psr_beams.specs.Ends.{Ends, stop_at_data, stop_at_header, slot_stop, stop_in, counted_in, StopsBy, NoneStopsBy, StopsFirst, NoneStops, CountsTooMany, NoneCountsTooMany, EndsWritten, EndsBeams, Leaves}
 use Rattle.psr_beams.proofs.Counting.{seen_there, calm_there, stood, read_on, still, AllRead}
 use Rattle.psr_beams.proofs.Ended.{counted_is}
 use Rattle.psr_beams.proofs.Builders.{Over, searched_at, judged_said, for_said, for_settings, reads_quietly, inside, one_there, told_there, at_files, at_long, at_fault}
 use Rattle.psr_beams.proofs.Stopped.{head, all_heads, are_of_one}
 use Rattle.psr_beams.proofs.Together.{searched}
 use Rattle.psr_beams.proofs.Opening.{all_say}
-use Rattle.psr_beams.proofs.Walked.{walk_kind, EndKind, end_kind, past, slot_failed, fails_stop, slot_failing, stopped_failing, stopped_long, all_data}
+use Rattle.psr_beams.proofs.Walked.{walk_kind, EndKind, end_kind, slot_failed, fails_stop, slot_failing, stopped_failing, stopped_long, all_data}
 
 -- ---- how it ends
 
@@ -66,8 +66,7 @@ module _ {I : Type 0} {told : I → Told} {is_calm : I → Type 0} {faults : I �
   failed_there : (k : ℕ) → n ≤ k → ¬ failed k
   failed_there k over did =
       let many = come.many in
-      let none = past ends k (omega (arith, over, many)) in
-      subst slot_failed none did
+      rw (get_or_past ends k None (omega (arith, over, many))) at did
 
   all : AllRead told is_calm faults failed before after
   all = record {
@@ -119,9 +118,7 @@ module _ {I : Type 0} {told : I → Told} {is_calm : I → Type 0} {faults : I �
 
     -- the inputs at its place tell it, once the headers were read
     told_mid : (x : I) → (told (get_or mid k x)).bytes_under (beam_name s k) ≡ Some file
-    told_mid x = subst (λ (under : List ℕ → Option (List ℕ)). under (beam_name s k) ≡ Some file)
-        (sym (read.read.each k x below).read.names)
-        (told_there run k x below file at)
+    told_mid x = rw (read.read.each k x below).read.names (told_there run k x below file at)
 
     kind_of : (x y : I) → (told x).bytes_under (beam_name s k) ≡ Some file → (end : BeamEnd) →
         HasCome told is_calm faults s o (beam_name s k) x y end → end.feed ≢ feed.ReadFault → EndKind s file end.feed
@@ -143,10 +140,9 @@ module _ {I : Type 0} {told : I → Told} {is_calm : I → Type 0} {faults : I �
       where
         by_kind : EndKind s file end.feed → IsRead (Some end)
         by_kind (inl (whole, walked)) =
-            let bytes = is.known whole.0 whole.1 file there in
             record {
               whole = walked;
-              holds = subst (λ b. HoldsData o s.search b (Some end)) bytes (is.held whole.0 whole.1);
+              holds = rw (is.known whole.0 whole.1 file there) at (is.held whole.0 whole.1);
             }
         by_kind (inr (long, walked)) =
             let more : stop_at_data k end.feed ≡ Some (TooLong s.max_bytes) = ap (stop_at_data k) long in absurd cc
@@ -220,7 +216,7 @@ module _ {I : Type 0} {told : I → Told} {is_calm : I → Type 0} {faults : I �
       AreFewAt (told_at told before) s o count
   few_to count few none least k less file at =
       let below : k < n = omega (arith, less, few) in
-      subst (λ m. m ≤ s.search.max_candidates) (counted_at k below file at (all_none none k below)) (least k less)
+      rw (sym (counted_at k below file at (all_none none k below))) (least k less)
 
   all_searched : NoneStopsBy stop_at_data ends → NoneCountsTooMany ends s.search.max_candidates →
       AreSearchedAt (told_at told before) s
@@ -296,7 +292,7 @@ module _ {I : Type 0} {told : I → Told} {is_calm : I → Type 0} {faults : I �
         | inl less ↦ quiet_where k (r.earlier k less)
         | inr over ↦
             let same : r.beam ≡ k = omega (arith, most, over) in
-            subst (λ j. ¬ failed j) same (own (get_or ends r.beam None) r.is)
+            rw (sym same) (own (get_or ends r.beam None) r.is)
       ]
 
   -- a beam that stops at its header once it was accepted isn't told
@@ -343,26 +339,22 @@ module _ {I : Type 0} {told : I → Told} {is_calm : I → Type 0} {faults : I �
           let there = inside run r.beam within in
           let lent = all.lent in
           let x = one_there run r.beam within in
-          let name = beam_name s r.beam in
           let was = (read.read.each r.beam x within).read in
           at_fault run all same r.beam within (slot_failing r.beam (get_or ends r.beam None) r.is)
           (λ k less. quiet_where k (r.earlier k less))
           (λ calm holds. serves (get_or mid r.beam x) (get_or after r.beam x) (get_or ends r.beam None)
           (come.each r.beam x within) r.is (was.calm (calm_there is_calm before r.beam x there calm))
-          (subst (λ (under : List ℕ → Option (List ℕ)). IsSome (under name)) (sym was.names)
-          (subst (λ (t : Told). IsSome (t.bytes_under name)) (seen_there told nothing_told before r.beam x there)
-          holds)))
+          (rw (was.names, sym (seen_there told nothing_told before r.beam x there)) holds))
           (texts r.beam (omega (arith, within)))
           (inr (record {
             begins = begins;
             whole = whole_to r.beam (omega (arith, within)) (λ k less. r.earlier k less);
-            broke = λ file at.
-                subst (λ t. IsReadOn s.max_bytes name file t (told_at told after r.beam))
-                (sym (seen_there told nothing_told before r.beam x there))
-                (subst (λ t. IsReadOn s.max_bytes name file (told (get_or before r.beam x)) t)
-                (sym (seen_there told nothing_told after r.beam x (omega (arith, there, lent))))
-                (left (told (get_or before r.beam x)) (told (get_or mid r.beam x)) (told (get_or after r.beam x))
-                (get_or ends r.beam None) r.is (broken r.beam x within) file (told_mid r.beam within file at x)));
+            broke = λ file is.
+                rw (
+                  seen_there told nothing_told before r.beam x there,
+                  seen_there told nothing_told after r.beam x (omega (arith, there, lent)),
+                ) (left (told (get_or before r.beam x)) (told (get_or mid r.beam x)) (told (get_or after r.beam x))
+                (get_or ends r.beam None) r.is (broken r.beam x within) file (told_mid r.beam within file is x));
           }))
         where
           serves : (x y : I) (slot : Option BeamEnd) →
@@ -383,8 +375,7 @@ module _ {I : Type 0} {told : I → Told} {is_calm : I → Type 0} {faults : I �
       long_ends : (limit : ℕ) → StopsBy stop_at_data ends (TooLong limit) → LeftAt (Some (TooLong limit))
       long_ends limit r =
           let is = limit_at limit r in
-          subst (λ m. LeftAt (Some (TooLong m))) (sym is)
-          (at_long run all same (lowest (subst (λ m. StopsBy stop_at_data ends (TooLong m)) is r)))
+          rw is (at_long run all same (lowest (rw is at r)))
 
       header_ends : NoneStopsBy stop_at_data ends → (cause : HeaderCause) (first : Stop)
           (r : StopsBy stop_at_header ends first) → LeftAt (Some (Header r.beam cause))
@@ -408,10 +399,10 @@ module _ {I : Type 0} {told : I → Told} {is_calm : I → Type 0} {faults : I �
           by_end : (e : FeedEnd) → stop_at_data r.beam e ≡ Some first → LeftAt (Some first)
           by_end feed.ReadFault is =
               let eq = is_first ReadFault first is in
-              subst (λ x. LeftAt (Some x)) eq (fault_ends (subst (λ x. StopsBy stop_at_data ends x) (sym eq) r))
+              rw (sym eq) (fault_ends (rw eq r))
           by_end (feed.TooLong limit) is =
               let eq = is_first (TooLong limit) first is in
-              subst (λ x. LeftAt (Some x)) eq (long_ends limit (subst (λ x. StopsBy stop_at_data ends x) (sym eq) r))
+              rw (sym eq) (long_ends limit (rw eq r))
           by_end e is = absurd cc
 
           by_slot : (slot : Option BeamEnd) → slot_stop stop_at_data r.beam slot ≡ Some first → LeftAt (Some first)
@@ -425,10 +416,9 @@ module _ {I : Type 0} {told : I → Told} {is_calm : I → Type 0} {faults : I �
         where
           by_end : (e : FeedEnd) → stop_at_header r.beam e ≡ Some first → LeftAt (Some first)
           by_end (feed.BadHeader file cause) is =
-              subst (λ x. LeftAt (Some x)) (is_first (Header r.beam cause) first is) (header_ends none cause first r)
+              rw (sym (is_first (Header r.beam cause) first is)) (header_ends none cause first r)
           by_end (feed.Gap file expected found) is =
-              subst (λ x. LeftAt (Some x)) (is_first (Gap r.beam expected found) first is)
-              (gap_ends none expected found first r)
+              rw (sym (is_first (Gap r.beam expected found) first is)) (gap_ends none expected found first r)
           by_end e is = absurd cc
 
           by_slot : (slot : Option BeamEnd) → slot_stop stop_at_header r.beam slot ≡ Some first → LeftAt (Some first)
@@ -443,8 +433,7 @@ module _ {I : Type 0} {told : I → Told} {is_calm : I → Type 0} {faults : I �
       at_many many none r =
           let count = counted_in ends r.beam in
           let limit = s.search.max_candidates in
-          subst (λ x. LeftAt (Some x)) (sym r.is)
-          (at_files run all same (TooMany count limit) (omega arith) (omega arith) (λ e. omega (arith, e))
+          rw r.is (at_files run all same (TooMany count limit) (omega arith) (omega arith) (λ e. omega (arith, e))
           (λ e. omega (arith, e)) (λ e. omega (arith, e)) (all_quiet none.0) (too_many many none.0 r))
 
     -- ---- the text, or its front
@@ -462,8 +451,7 @@ module _ {I : Type 0} {told : I → Told} {is_calm : I → Type 0} {faults : I �
             let there : k < length files = omega (arith, below, same) in
             let within : k < n = omega (arith, there, count) in
             let r = whole_at k within (beam_file files k) (are.each k within) (all_none none.0 k within) in
-            subst (λ b. HoldsData o s.search b (get_or ends k None))
-            (sym (get_or-map data_of files k [] [] there)) r.holds;
+            rw (get_or-map data_of files k [] [] there) r.holds;
       }
 
     at_text : (stop : Option Stop) →
@@ -479,8 +467,7 @@ module _ {I : Type 0} {told : I → Told} {is_calm : I → Type 0} {faults : I �
             ForBeams words (told_at told before) (HaveText words P)
         text P wrote = for_settings run (HaveText words P) (λ files are. (
           searched (told_at told before) s files are run.some (all_searched r.whole.0 r.few),
-          subst (λ p. P (searched_beams_text p s.search (within_in words) (more_in words) (map data_of files)))
-              (sym (observed files are)) (wrote (map data_of files) (hold_files files are r.whole)),
+          rw (observed files are) (wrote (map data_of files) (hold_files files are r.whole)),
         ))
 
         are_searched : ForSettings words (λ t. AreSearchedAt (told_at told before) t)
@@ -518,8 +505,7 @@ module _ {I : Type 0} {told : I → Told} {is_calm : I → Type 0} {faults : I �
           where
             wrote : (data_of_beams : List (List ℕ)) → BeamsHoldData o s.search data_of_beams ends →
                 WroteAll (searched_beams_text o s.search (within_in words) (more_in words) data_of_beams) out out'
-            wrote list held = subst (λ x. WritesFound (λ t. WroteAll t out out') (λ t. WroteFront t out out') x
-                (searched_beams_text o s.search (within_in words) (more_in words) list)) none (r.wrote list held)
+            wrote list held = rw none at (r.wrote list held)
         by_kind (inr fault) = subst LeftAt (sym fault) (late (Some SinkFault) (λ e. cc) (λ e. cc) (record {
           known = (9, lit< tt, refl);
           written = record {
@@ -538,8 +524,7 @@ module _ {I : Type 0} {told : I → Told} {is_calm : I → Type 0} {faults : I �
           where
             front : (data_of_beams : List (List ℕ)) → BeamsHoldData o s.search data_of_beams ends →
                 WroteFront (searched_beams_text o s.search (within_in words) (more_in words) data_of_beams) out out'
-            front list held = subst (λ x. WritesFound (λ t. WroteAll t out out') (λ t. WroteFront t out out') x
-                (searched_beams_text o s.search (within_in words) (more_in words) list)) fault (r.wrote list held)
+            front list held = rw fault at (r.wrote list held)
 
     pub through : HaveBroken told s n before mid after ends → (stop : Option Stop) →
         EndsBeams o s.search (within_in words) (more_in words) ends out out' stop → LeftAt stop

@@ -67,11 +67,6 @@ pub end_kind : (s : SettingsSeen) (file : List ℕ) (end : FeedEnd) (bytes : ℕ
 end_kind s file end bytes (inl whole) is = inl ((bytes, is ∙ ap (end_of bytes s.max_bytes) whole), whole)
 end_kind s file end bytes (inr long) is = inr (is ∙ ap (end_of bytes s.max_bytes) long, long)
 
-pub past : {X : Type 0} (xs : List (Option X)) (k : ℕ) → length xs ≤ k → get_or xs k None ≡ None
-past [] k over = refl
-past (x ∷ xs) zero over = absurd (omega (arith, over))
-past (x ∷ xs) (suc k) over = past xs k (omega (arith, over))
-
 -- the inputs of the beam of a slot failed
 abbrev pub slot_failed : Option BeamEnd → Type 0
 slot_failed None = ⊥

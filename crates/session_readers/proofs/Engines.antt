@@ -1,5 +1,5 @@
 -- The engines of a shard, and a block that it cleared.
-use Rattle.std.proofs.Common.{◌≡◌, ◌≢◌, ℕ, zero, suc, ◌+◌, ◌-◌, ◌*◌, ◌<◌, ◌≤◌, Bool, true, false, List, [], ◌∷◌, ◌++◌, length, length-append, slice_set, Option, Some, refl, sym, ap, ◌∙◌, subst, arith}
+use Rattle.std.proofs.Common.{◌≡◌, ◌≢◌, ℕ, zero, suc, ◌+◌, ◌-◌, ◌*◌, ◌<◌, ◌≤◌, Bool, true, false, List, [], ◌∷◌, ◌++◌, length, length-append, slice_set, Option, Some, refl, sym, ap, ◌∙◌, arith}
 use Rattle.std.specs.Prelude.{if◌then◌else◌, nat_lt}
 use Rattle.std.proofs.lemmas.List.{append-nil, length-set}
 use Rattle.std.proofs.lemmas.Option.{slice_get_within}
@@ -8,7 +8,6 @@ use mathlib.Core.Logic.{dite}
 use native.Mathlib.Decide.{ℕ_discrete, dec_le}
 use Rattle.dada_model.specs.Observation.{Observation}
 use Rattle.ring_blocks.specs.declared.Entry.{Entry}
-use Rattle.ring_blocks.specs.declared.Mark.{Mark}
 use Rattle.stream_model.specs.Blocks.{is_end, ended_transfers, transfer_bytes}
 use Rattle.stream_model.specs.BlockLaws.{EndsAreCounted, EntriesAreOfTransfers}
 use Rattle.search_engine.specs.Engine.{EngineState, SameShard, StandsForPart, scope_of}
@@ -57,18 +56,15 @@ bytes_other : EntriesAreOfTransfers → (k : ℕ) (xs : List Entry) (e : Entry) 
     transfer_bytes k (xs ++ e ∷ []) ≡ transfer_bytes k xs
 bytes_other of k xs e other = dite (dec_le (ended_transfers xs) k)
     (λ after. let later : 0 < k - ended_transfers xs = omega arith in
-    of.open_still k xs (e ∷ []) after
-    ∙ (ap (λ bytes. transfer_bytes k xs ++ bytes) (none_later (k - ended_transfers xs) e later)
-    ∙ append-nil (transfer_bytes k xs)))
+    of.open_still k xs (e ∷ []) after ∙ rw (none_later (k - ended_transfers xs) e later)
+    (append-nil (transfer_bytes k xs)))
     (λ before. of.done k xs (e ∷ []) (omega arith))
 
 -- what an engine stands for, where the bytes of its transfer and whether that ended are the same
 stands_same : (o : Observation) (k : ℕ) (xs ys : List Entry) (e : EngineState) →
     nat_lt k (ended_transfers ys) ≡ nat_lt k (ended_transfers xs) → transfer_bytes k ys ≡ transfer_bytes k xs →
     StandsAt o k xs e → StandsAt o k ys e
-stands_same o k xs ys e ended bytes stands =
-    subst (λ (b : Bool). Stands b o (transfer_bytes k ys) e) (sym ended)
-    (subst (λ (l : List ℕ). Stands (nat_lt k (ended_transfers xs)) o l e) (sym bytes) stands)
+stands_same o k xs ys e ended bytes stands = rw (ended, bytes) stands
 
 -- ---- the engine that is fed
 
@@ -101,12 +97,9 @@ module _ (counted : EndsAreCounted) (of : EntriesAreOfTransfers) (size : ℕ) (x
     scope = fed.scope;
     stands = λ o stands.
         let d = ended_transfers xs in
-        let was : StandsForPart o (transfer_bytes d xs) old =
-        subst (λ (b : Bool). Stands b o (transfer_bytes d xs) old) (not_below_itself d) stands in
-        subst (λ (l : List ℕ). Stands (nat_lt d (ended_transfers (xs ++ e ∷ []))) o l new) (sym (of.next d xs e refl))
-        (subst (λ (b : Bool). Stands b o (transfer_bytes d xs ++ e.bytes) new)
-        (sym (lt_same d (ended_transfers (xs ++ e ∷ [])) (is_end e.mark) (ended_more counted xs e)))
-        (fed.stands o (transfer_bytes d xs) was));
+        let was : StandsForPart o (transfer_bytes d xs) old = rw (not_below_itself d) at stands in
+        rw (of.next d xs e refl, lt_same d (ended_transfers (xs ++ e ∷ [])) (is_end e.mark) (ended_more counted xs e))
+        (fed.stands o (transfer_bytes d xs) was);
   }
 
   -- ---- the others
@@ -146,8 +139,7 @@ module _ (counted : EndsAreCounted) (of : EntriesAreOfTransfers) (size : ℕ) (x
       let count = fed.count in
       let was = at (ended_transfers xs) (omega arith) in
       let now = fed.this was.0 was.1 in
-      subst (λ (j : ℕ). (f : EngineState) × HasEngine new j f × IsEngineAt size (xs ++ e ∷ []) j f) (sym same)
-      (now.0, now.1, this_at was.0 now.0 was.2 now.2))
+      rw same (now.0, now.1, this_at was.0 now.0 was.2 now.2))
       (λ other.
       let count = fed.count in
       let was = at k (omega arith) in
@@ -159,9 +151,8 @@ module _ (counted : EndsAreCounted) (of : EntriesAreOfTransfers) (size : ℕ) (x
     count = fed.count;
     each = λ k f there. dite (ℕ_discrete k (ended_transfers xs))
         (λ same.
-        let now = fed.this f (subst (λ (j : ℕ). HasEngine old j f) same there) in
-        subst (λ (j : ℕ). (g : EngineState) × HasEngine new j g × EngineFollows j xs (xs ++ e ∷ []) f g) (sym same)
-        (now.0, now.1, this_follows f now.0 now.2))
+        let now = fed.this f (rw same at there) in
+        rw same (now.0, now.1, this_follows f now.0 now.2))
         (λ other. (f, fed.others k other ∙ there, other_follows k f other));
   }
 
@@ -177,7 +168,7 @@ follow_still xs ys engines is = record {
     record {
       same = record { search = refl; shard = refl };
       scope = refl;
-      stands = λ o stands. subst (λ (l : List Entry). StandsAt o k l f) (sym is) stands;
+      stands = λ o stands. rw is stands;
     },
   );
 }
@@ -194,7 +185,7 @@ fed_at old k e f bytes b there fed = record {
       let same : e ≡ x = cc in (
         f,
         get_set_same old k (Some f) (slice_get_within old k (Some e) there),
-        subst (λ (y : EngineState). WasFed y bytes b f) same fed,
+        rw (sym same) fed,
       );
 }
 
@@ -207,7 +198,7 @@ fed_nothing e f b same scope fed ended stands = record {
   scope = scope;
   fed = omega arith;
   ended = ended;
-  stands = λ o before was. subst (λ (l : List ℕ). Stands b o l f) (sym (append-nil before)) (stands o before was);
+  stands = λ o before was. rw (append-nil before) (stands o before was);
 }
 
 -- ---- fed first, and ended then
@@ -231,8 +222,8 @@ fed_and_ended e f g bytes b fed ended =
       scope = ended.scope ∙ fed.scope;
       fed = omega arith;
       ended = ended.ended;
-      stands = λ o before was. subst (λ (l : List ℕ). Stands b o l g) (append-nil (before ++ bytes))
-          (ended.stands o (before ++ bytes) (fed.stands o before was));
+      stands = λ o before was.
+          rw (append-nil (before ++ bytes)) at (ended.stands o (before ++ bytes) (fed.stands o before was));
     }
 
 -- both are one feed of the block
@@ -246,8 +237,3 @@ fed_then_ended old mid new k bytes b fed ended = record {
       let g = ended.this f.0 f.1 in
       (g.0, g.1, fed_and_ended e f.0 g.0 bytes b f.2 g.2);
 }
-
--- the same mark
-pub ended_at : (old new : List (Option EngineState)) (k : ℕ) (bytes : List ℕ) (m m' : Mark) → m ≡ m' →
-    WasFedAt old k bytes (is_end m) new → WasFedAt old k bytes (is_end m') new
-ended_at old new k bytes m m' is fed = subst (λ (x : Mark). WasFedAt old k bytes (is_end x) new) is fed

@@ -1,5 +1,6 @@
 -- A turn of a shard.
-use Rattle.std.proofs.Common.{◌≡◌, ◌+◌, min, Bool, true, false, length, refl, sym, ◌∙◌, arith}
+use Rattle.std.proofs.Common.{◌≡◌, ◌+◌, min, false, length, refl, sym, ◌∙◌, arith}
+use Rattle.std.proofs.lemmas.Bool.{false≢true}
 use Rattle.ring_core.specs.Machine.{greatest}
 use Rattle.stream_model.specs.Blocks.{is_over}
 use Rattle.session_readers.specs.declared.shard.ShardActor.{ShardActor}
@@ -18,14 +19,11 @@ shard_turned x y running over read engines turns = record {
   made = 1;
   most = omega arith;
   all = λ on. refl;
-  none = λ ended. absurd (apart (x.ended) ended running);
-  stays = λ ended. absurd (apart (x.ended) ended running);
+  none = λ ended. absurd (false≢true (sym running ∙ ended));
+  stays = λ ended. absurd (false≢true (sym running ∙ ended));
   turns = turns;
   reads = one_read (HasMore (length (engines_of x.part))) x.pass y.pass (sym over ∙ running) read;
   tries = read_tries (header_is_next x.pass) x.pass y.pass read;
   grown = read_blocks (header_is_next x.pass) x.pass y.pass read;
   engines = engines;
 }
-  where
-    apart : (b : Bool) → b ≡ true → b ≡ false → ⊥
-    apart b t f = cc

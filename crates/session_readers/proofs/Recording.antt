@@ -1,5 +1,5 @@
 -- A turn of a recorder.
-use Rattle.std.proofs.Common.{◌≡◌, ◌≢◌, ℕ, ◌+◌, ◌<◌, ◌≤◌, ◌^◌, min, Bool, true, false, List, length, Option, Some, None, refl, sym, ap, ◌∙◌, subst, arith}
+use Rattle.std.proofs.Common.{◌≡◌, ◌≢◌, ℕ, ◌+◌, ◌<◌, ◌≤◌, ◌^◌, min, Bool, true, false, List, length, Option, Some, None, refl, sym, ap, ◌∙◌, arith}
 use Rattle.std.specs.Prelude.{IsSome, ◌==◌, if◌then◌else◌}
 use Rattle.std.proofs.lemmas.Bool.Decides.{nat_tests}
 use Rattle.psr_base.specs.Count.{Rose}
@@ -8,13 +8,12 @@ use Rattle.ring_core.specs.Machine.{greatest}
 use Rattle.ring_blocks.specs.declared.Entry.{Entry}
 use Rattle.ring_ends.specs.declared.passes.ReaderPass.{ReaderPass}
 use Rattle.ring_ends.specs.Answers.{IsReadStop}
-use Rattle.ring_ends.specs.Passes.{reader_knows, ended_knows}
+use Rattle.ring_ends.specs.Passes.{reader_knows}
 use Rattle.dada_hdu.specs.declared.hdu.Hdu.{Hdu}
 use Rattle.dada_hdu.specs.declared.passes.HduReader.{HduReader}
-use Rattle.dada_hdu.specs.declared.ended.HduEnded.{HduEnded}
 use Rattle.dada_hdu.specs.declared.ended.HduEnded.TheVariants.{Here}
 use Rattle.stream_model.specs.Blocks.{ended_transfers}
-use Rattle.dada_hdu.specs.Passes.{header_end, data_end, ReadsBoth, EndedFromBoth}
+use Rattle.dada_hdu.specs.Passes.{ReadsBoth}
 use Rattle.dada_recorder.specs.declared.answers.RecordEnd.{RecordEnd}
 use Rattle.dada_recorder.specs.declared.answers.RecordEnd.TheVariants.{FileFault}
 use Rattle.dada_recorder.specs.declared.answers.RecordTurn.{RecordTurn}
@@ -27,7 +26,6 @@ use Rattle.dada_recorder.specs.Recorder.{plan_of, block_size, has_end, has_heade
 use Rattle.dada_recorder.specs.Turns.{cleared_headers, cleared_blocks, ClearsNext, ReadsOne, RecordAnswers}
 use Rattle.session_readers.specs.declared.record.RecordActor.{RecordActor}
 use Rattle.session_readers.specs.Reads.{TriesNext, header_is_next, ReadsRing, ReadsNext, HasRested}
-use Rattle.session_readers.specs.Shards.{IsHereOrRetired}
 use Rattle.session_readers.specs.Records.{recorded_headers, recorded_blocks, RecordOn, FilesKept, GoesOnFrom, RecordMoved}
 use Rattle.session_readers.proofs.OneRead.{takes_next, misses_next, begins_same, pass_rests, rested_tries, no_reads, one_read, read_number, read_tries, read_headers, read_blocks}
 
@@ -66,8 +64,7 @@ has_read : (b : Bool) (old new : HduReader) (end : Option RecordEnd) (answer : R
     length (cleared_headers old) ≡ ended_transfers (cleared_blocks old) + (if b then 1 else 0) →
     ReadsNext (Here old) (Here new)
 has_read b old new end answer answers begun =
-    subst (λ (next : Bool). ReadsRing next (Here old) (Here new))
-    (sym (next_is b (length (cleared_headers old)) (ended_transfers (cleared_blocks old)) begun))
+    rw (next_is b (length (cleared_headers old)) (ended_transfers (cleared_blocks old)) begun)
     (read_once b old new end answer answers)
 
 -- ---- turns
@@ -88,14 +85,13 @@ module _ {F : Type 0} (is_open : F → Type 0) (hdu : Hdu) (x y : RecordActor F)
       RecorderStands y.part (cleared_headers reader) (cleared_blocks reader) → y.end ≡ has_end y.part →
       y.turns < 2 ^ 64 → RecordOn is_open hdu y
   record_on on reads block file closed stands end small = record {
-    reads = subst (λ (p : HduEnded). EndedFromBoth hdu p) (sym now) reads;
+    reads = rw now reads;
     here = λ running. (reader, now);
-    stays = subst (λ (p : HduEnded). IsHereOrRetired p) (sym now) tt;
+    stays = rw now tt;
     size = on.size ∙ sym block;
     file = λ running. file (sym end ∙ running);
-    closed = subst (λ (e : Option RecordEnd). EndsClosed e (is_open y.part.files.now)) (sym end) closed;
-    stands = subst (λ (p : HduEnded). RecorderStands y.part (ended_knows (header_end p)).cleared
-        (ended_knows (data_end p)).cleared) (sym now) stands;
+    closed = rw end closed;
+    stands = rw now stands;
     end = end;
     count = small;
   }
@@ -104,9 +100,7 @@ module _ {F : Type 0} (is_open : F → Type 0) (hdu : Hdu) (x y : RecordActor F)
 pub stood : {F : Type 0} (x : RecordActor F) (reader : HduReader) → x.pass ≡ Here reader →
     RecorderStands x.part (recorded_headers x) (recorded_blocks x) →
     RecorderStands x.part (cleared_headers reader) (cleared_blocks reader)
-stood x reader was stands =
-    subst (λ (p : HduEnded). RecorderStands x.part (ended_knows (header_end p)).cleared
-    (ended_knows (data_end p)).cleared) was stands
+stood x reader was stands = rw was at stands
 
 -- as many headers as transfers ended, and one more where that of the next was cleared
 pub has_begun : {F : Type 0} (x : RecordActor F) (reader : HduReader) → x.pass ≡ Here reader →
@@ -145,28 +139,18 @@ module _ {F : Type 0} (seen : F → FilesSeen) where
       y.turns ≡ min greatest (x.turns + 1) → RecordMoved seen 1 x y
   record_turned x y reader reader' b end answer was now running end_is stands is answers begun same plan block made
       failed quiet count turns =
-      let read : ReadsNext x.pass y.pass = subst (λ (p : HduEnded). ReadsNext p y.pass) (sym was)
-      (subst (λ (p : HduEnded). ReadsNext (Here reader) p) (sym now)
-      (has_read b reader reader' end answer answers begun)) in
+      let read : ReadsNext x.pass y.pass = rw (was, now) (has_read b reader reader' end answer answers begun) in
       let next = header_is_next x.pass in
-      let of_headers = λ (p : HduEnded). (ended_knows (header_end p)).cleared in
-      let of_blocks = λ (p : HduEnded). (ended_knows (data_end p)).cleared in
       record {
         files = record {
           same_reference = same;
-          made = λ outset are.
-              subst (λ (p : HduEnded). FilesAreOf y.part outset (of_headers p) (of_blocks p) (seen y.part.files.now))
-              (sym now)
-              (made outset
-              (subst (λ (p : HduEnded). FilesAreOf x.part outset (of_headers p) (of_blocks p) (seen x.part.files.now))
-              was are));
+          made = λ outset are. rw now (made outset (rw was at are));
           count = count;
           since = λ k before.
               let still = before.quiet (none_is_no_fault x.end running) in
               record {
                 count = omega arith;
-                failed = λ fault.
-                    subst (λ (n : ℕ). Rose n (seen y.part.files.now).faults) still (failed (sym is ∙ fault));
+                failed = λ fault. rw (sym still) (failed (sym is ∙ fault));
                 quiet = λ fine. quiet (λ fault. fine (is ∙ fault)) ∙ still;
               };
         };
@@ -205,18 +189,13 @@ module _ {F : Type 0} (seen : F → FilesSeen) where
       record {
         files = record {
           same_reference = ap (λ p. p.files.ghost_name) part;
-          made = λ outset are.
-              subst (λ p. FilesAreOf p outset (recorded_headers y) (recorded_blocks y) (seen p.files.now)) (sym part)
-              (subst (λ (bs : List Entry). FilesAreOf x.part outset (recorded_headers y) bs (seen x.part.files.now))
-              (sym same.blocks.cleared)
-              (subst (λ (hs : List Entry). FilesAreOf x.part outset hs (recorded_blocks x) (seen x.part.files.now))
-              (sym same.header.cleared) are));
+          made = λ outset are. rw (part, same.blocks.cleared, same.header.cleared) are;
           count = omega arith;
           since = λ k was.
               let least = was.count in
               record {
                 count = omega arith;
-                failed = λ fault. subst (λ (f : ℕ). Rose k f) (sym faults) (was.failed (sym end ∙ fault));
+                failed = λ fault. rw faults (was.failed (sym end ∙ fault));
                 quiet = λ fine. faults ∙ was.quiet (λ fault. fine (end ∙ fault));
               };
         };

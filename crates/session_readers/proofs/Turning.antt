@@ -1,26 +1,25 @@
 -- One read of a shard.
-use Rattle.std.proofs.Common.{◌≡◌, ℕ, ◌+◌, ◌*◌, ◌<◌, ◌≤◌, ◌^◌, Bool, true, false, ◌||◌, List, [], ◌∷◌, ◌++◌, length, length-append, vec_len, refl, sym, ap, ◌∙◌, subst, arith}
+use Rattle.std.proofs.Common.{◌≡◌, ℕ, ◌+◌, ◌*◌, ◌<◌, ◌≤◌, ◌^◌, Bool, true, false, ◌||◌, List, [], ◌∷◌, ◌++◌, length, length-append, vec_len, refl, sym, ap, ◌∙◌, arith}
 use Rattle.std.specs.Prelude.{if◌then◌else◌, nat_le}
+use Rattle.std.proofs.lemmas.Bool.{false≢true}
 use Rattle.std.proofs.lemmas.Bool.Decides.{nat_tests}
-use Rattle.std.proofs.lemmas.List.{append-nil}
 use Rattle.std.proofs.Math.Nat.{mul-le-mul_right}
 use Rattle.ring_blocks.specs.declared.Entry.{Entry}
 use Rattle.ring_blocks.specs.declared.Mark.{Mark}
-use Rattle.ring_ends.specs.Passes.{reader_knows, ended_knows}
+use Rattle.ring_ends.specs.Passes.{reader_knows}
 use Rattle.dada_hdu.specs.declared.hdu.Hdu.{Hdu}
 use Rattle.dada_hdu.specs.declared.passes.HduReader.{HduReader}
 use Rattle.dada_hdu.specs.declared.ended.HduEnded.{HduEnded}
 use Rattle.dada_hdu.specs.declared.ended.HduEnded.TheVariants.{Here, Away, Retired}
-use Rattle.dada_hdu.specs.Passes.{data_shape, data_end, ReadsBoth, EndedFromBoth}
+use Rattle.dada_hdu.specs.Passes.{data_shape, ReadsBoth, EndedFromBoth}
 use Rattle.stream_model.specs.Blocks.{is_end, is_cut, ended_transfers, has_cut, is_over}
 use Rattle.stream_model.specs.BlockLaws.{EndsAreCounted, EntriesAreOfTransfers}
 use Rattle.search_engine.specs.Engine.{EngineState, most_fed}
-use Rattle.session_readers.specs.declared.bank.Bank.{Bank}
 use Rattle.session_readers.specs.declared.shard.ShardActor.{ShardActor}
 use Rattle.session_readers.specs.Banks.{HasEngine, WasFedAt, engines_of}
 use Rattle.session_readers.specs.Reads.{TriesNext, header_is_next, ReadsRing, ReadsNext, HasMore, HasRested}
-use Rattle.session_readers.specs.Shards.{AreEnginesAt, EnginesFollow, blocks_cleared, shard_cleared, IsHereOrRetired, IsRetired, ShardOn, ShardStepped, ShardMoved}
-use Rattle.session_readers.proofs.OneRead.{pass_rests, rested_tries, no_reads}
+use Rattle.session_readers.specs.Shards.{EnginesFollow, blocks_cleared, shard_cleared, IsHere, IsHereOrRetired, IsRetired, ShardOn, ShardStepped, ShardMoved}
+use Rattle.session_readers.proofs.OneRead.{begins_same, pass_rests, rested_tries, no_reads}
 use Rattle.session_readers.proofs.Engines.{ended_more, not_below_itself, engines_at, engines_follow, follow_still}
 
 -- ---- ends
@@ -50,55 +49,51 @@ pub over_more : EndsAreCounted → (n d : ℕ) (xs : List Entry) (e : Entry) →
     d ≡ ended_transfers (xs ++ e ∷ []) → is_over n (xs ++ e ∷ []) ≡ (nat_le n d || is_cut e.mark)
 over_more counted n d xs e off is =
     let uncut = (over_parts (nat_le n (ended_transfers xs)) (has_cut xs) off).1 in
-    let cut : has_cut (xs ++ e ∷ []) ≡ is_cut e.mark =
-    counted.cut_append xs (e ∷ []) ∙ (ap (λ (b : Bool). b || has_cut (e ∷ [])) uncut ∙ (cut_one e
-    ∙ or_false (is_cut e.mark))) in
-    ap (λ (b : Bool). nat_le n (ended_transfers (xs ++ e ∷ [])) || b) cut
-    ∙ ap (λ (k : ℕ). nat_le n k || is_cut e.mark) (sym is)
+    rw (sym is, counted.cut_append xs (e ∷ []), uncut, cut_one e, or_false (is_cut e.mark)) refl
+
+-- ---- a shard whose engines stand as they stood
+
+module _ (x y : ShardActor) (cleared : shard_cleared y ≡ shard_cleared x) (part : y.part ≡ x.part) where
+  on_kept : (hdu : Hdu) → EndedFromBoth hdu y.pass → (y.ended ≡ false → IsHere y.pass) → IsHereOrRetired y.pass →
+      vec_len y.space ≡ vec_len x.space → y.turns ≡ x.turns → y.done ≡ x.done → y.ended ≡ x.ended → ShardOn hdu x →
+      ShardOn hdu y
+  on_kept hdu reads here stays space turns done ended on =
+      let header_room = on.header_room in
+      let count = on.count in
+      record {
+        reads = reads;
+        here = here;
+        stays = stays;
+        header_room = omega arith;
+        few = on.few;
+        done = rw cleared (done ∙ on.done);
+        over = rw (part, cleared) (ended ∙ on.over);
+        engines = rw (part, cleared) on.engines;
+        count = omega arith;
+      }
+
+  follow_kept : EnginesFollow (shard_cleared x) (shard_cleared y) (engines_of x.part) (engines_of y.part)
+  follow_kept = rw part (follow_still (shard_cleared x) (shard_cleared y) (engines_of x.part) cleared)
 
 -- ---- a shard before and after a read
 
 module _ (hdu : Hdu) (x y : ShardActor) (reader reader' : HduReader) (was : x.pass ≡ Here reader)
     (now : y.pass ≡ Here reader') where
-  cleared_was : shard_cleared x ≡ blocks_cleared reader
-  cleared_was = ap (λ (p : HduEnded). (ended_knows (data_end p)).cleared) was
-
-  cleared_now : shard_cleared y ≡ blocks_cleared reader'
-  cleared_now = ap (λ (p : HduEnded). (ended_knows (data_end p)).cleared) now
-
   -- the read, as one of the shard's pass
   pass_read : (next : Bool) → header_is_next x.pass ≡ next → ReadsRing next (Here reader) (Here reader') →
       ReadsNext x.pass y.pass
-  pass_read next is read = subst (λ (b : Bool). ReadsRing b x.pass y.pass) (sym is)
-      (subst (λ (p : HduEnded). ReadsRing next p y.pass) (sym was)
-      (subst (λ (p : HduEnded). ReadsRing next (Here reader) p) (sym now) read))
+  pass_read next is read = rw (is, was, now) read
 
   -- ---- nothing was fed
 
   cleared_same : blocks_cleared reader' ≡ blocks_cleared reader → shard_cleared y ≡ shard_cleared x
-  cleared_same same = cleared_now ∙ (same ∙ sym cleared_was)
+  cleared_same same = rw (was, now) same
 
   pub on_still : ReadsBoth hdu reader' → blocks_cleared reader' ≡ blocks_cleared reader → y.part ≡ x.part →
       vec_len y.space ≡ vec_len x.space → y.turns ≡ x.turns → y.done ≡ x.done → y.ended ≡ x.ended → ShardOn hdu x →
       ShardOn hdu y
-  on_still reads same part space turns done ended on =
-      let header_room = on.header_room in
-      let count = on.count in
-      record {
-        reads = subst (λ (p : HduEnded). EndedFromBoth hdu p) (sym now) reads;
-        here = λ running. (reader', now);
-        stays = subst (λ (p : HduEnded). IsHereOrRetired p) (sym now) tt;
-        header_room = omega arith;
-        few = on.few;
-        done = done ∙ (on.done ∙ ap ended_transfers (sym (cleared_same same)));
-        over = ended ∙ (on.over
-            ∙ (ap (λ (l : List Entry). is_over (length (engines_of x.part)) l) (sym (cleared_same same))
-            ∙ ap (λ (bank : Bank). is_over (length (engines_of bank)) (shard_cleared y)) (sym part)));
-        engines = subst (λ (bank : Bank). AreEnginesAt (data_shape hdu).size (shard_cleared y) (engines_of bank))
-            (sym part) (subst (λ (l : List Entry). AreEnginesAt (data_shape hdu).size l (engines_of x.part))
-            (sym (cleared_same same)) on.engines);
-        count = omega arith;
-      }
+  on_still reads same part = on_kept x y (cleared_same same) part hdu (rw now reads) (λ running. (reader', now))
+      (rw now tt)
 
   pub stepped_still : (next : Bool) → header_is_next x.pass ≡ next → ReadsRing next (Here reader) (Here reader') →
       blocks_cleared reader' ≡ blocks_cleared reader → y.part ≡ x.part → y.done ≡ x.done → y.ended ≡ x.ended →
@@ -107,10 +102,7 @@ module _ (hdu : Hdu) (x y : ShardActor) (reader reader' : HduReader) (was : x.pa
     turns = turns;
     read = pass_read next is read;
     idle = λ none. record { part = part; done = done; ended = ended };
-    engines = subst (λ (bank : Bank). EnginesFollow (shard_cleared x) (shard_cleared y) (engines_of x.part)
-        (engines_of bank)) (sym part)
-        (follow_still (shard_cleared x) (shard_cleared y) (engines_of x.part)
-        (cleared_same same));
+    engines = follow_kept x y (cleared_same same) part;
   }
 
   -- ---- a block was fed
@@ -121,13 +113,11 @@ module _ (hdu : Hdu) (x y : ShardActor) (reader reader' : HduReader) (was : x.pa
       (fed : WasFedAt (engines_of x.part) x.done e.bytes (is_end e.mark) (engines_of y.part))
     where
       cleared_more : shard_cleared y ≡ shard_cleared x ++ e ∷ []
-      cleared_more = cleared_now ∙ (more ∙ ap (λ (l : List Entry). l ++ e ∷ []) (sym cleared_was))
+      cleared_more = rw (was, now) more
 
       fed_at : WasFedAt (engines_of x.part) (ended_transfers (shard_cleared x)) e.bytes (is_end e.mark)
           (engines_of y.part)
-      fed_at = subst
-          (λ (k : ℕ). WasFedAt (engines_of x.part) k e.bytes (is_end e.mark) (engines_of y.part))
-          on.done fed
+      fed_at = rw (sym on.done) fed
 
       pub on_fed : ReadsBoth hdu reader' → vec_len y.space ≡ vec_len x.space → y.turns ≡ x.turns →
           x.ended ≡ false → y.done ≡ x.done + (if is_end e.mark then 1 else 0) →
@@ -136,22 +126,19 @@ module _ (hdu : Hdu) (x y : ShardActor) (reader reader' : HduReader) (was : x.pa
           let header_room = on.header_room in
           let count = on.count in
           let off : is_over (length (engines_of y.part)) (shard_cleared x) ≡ false =
-          ap (λ (n : ℕ). is_over n (shard_cleared x)) fed.count ∙ (sym on.over ∙ running) in
+          rw fed.count (sym on.over ∙ running) in
           let done_is : y.done ≡ ended_transfers (shard_cleared x ++ e ∷ []) =
-          done ∙ (ap (λ (k : ℕ). k + (if is_end e.mark then 1 else 0)) on.done
-          ∙ sym (ended_more counted (shard_cleared x) e)) in
+          done ∙ rw on.done (sym (ended_more counted (shard_cleared x) e)) in
           record {
-            reads = subst (λ (p : HduEnded). EndedFromBoth hdu p) (sym now) reads;
+            reads = rw now reads;
             here = λ running. (reader', now);
-            stays = subst (λ (p : HduEnded). IsHereOrRetired p) (sym now) tt;
+            stays = rw now tt;
             header_room = omega arith;
             few = on.few;
-            done = done_is ∙ ap ended_transfers (sym cleared_more);
-            over = ended
-                ∙ (sym (over_more counted (length (engines_of y.part)) y.done (shard_cleared x) e off done_is)
-                ∙ ap (λ (l : List Entry). is_over (length (engines_of y.part)) l) (sym cleared_more));
-            engines = subst (λ (l : List Entry). AreEnginesAt (data_shape hdu).size l (engines_of y.part))
-                (sym cleared_more) (engines_at counted of (data_shape hdu).size (shard_cleared x) e fits
+            done = rw cleared_more done_is;
+            over = rw cleared_more (ended
+                ∙ sym (over_more counted (length (engines_of y.part)) y.done (shard_cleared x) e off done_is));
+            engines = rw cleared_more (engines_at counted of (data_shape hdu).size (shard_cleared x) e fits
                 (engines_of x.part) (engines_of y.part) on.engines fed_at);
             count = omega arith;
           }
@@ -165,10 +152,8 @@ module _ (hdu : Hdu) (x y : ShardActor) (reader reader' : HduReader) (was : x.pa
             let more = ap length cleared_more ∙ length-append (shard_cleared x) (e ∷ []) in
             let same = ap length none in
             absurd (omega arith);
-        engines = subst (λ (l : List Entry). EnginesFollow (shard_cleared x) l (engines_of x.part)
-            (engines_of y.part)) (sym cleared_more)
-            (engines_follow counted of (data_shape hdu).size (shard_cleared x) e
-            fits (engines_of x.part) (engines_of y.part) fed_at);
+        engines = rw cleared_more (engines_follow counted of (data_shape hdu).size (shard_cleared x) e fits
+            (engines_of x.part) (engines_of y.part) fed_at);
       }
 
 -- ---- a block that was read and is cleared
@@ -176,9 +161,7 @@ module _ (hdu : Hdu) (x y : ShardActor) (reader reader' : HduReader) (was : x.pa
 -- the reader of a shard that takes one block more
 pub within_was : (x : ShardActor) (reader : HduReader) (m : ℕ) → x.pass ≡ Here reader →
     length (blocks_cleared reader) < m → length (shard_cleared x) < m
-within_was x reader m was within =
-    subst (λ (l : List Entry). length l < m)
-    (sym (ap (λ (p : HduEnded). (ended_knows (data_end p)).cleared) was)) within
+within_was x reader m was within = rw was within
 
 -- a read of the header ring
 pub read_header : (old new : HduReader) → TriesNext (reader_knows old.header) (reader_knows new.header) →
@@ -187,8 +170,7 @@ read_header old new tried blocks = (tried, pass_rests old.blocks new.blocks bloc
 
 pub ended_as : (r : Bool) (a a' d : ℕ) (m m' : Mark) → r ≡ (nat_le a d || is_cut m) → a ≡ a' → m ≡ m' →
     r ≡ (nat_le a' d || is_cut m')
-ended_as r a a' d m m' is count mark = is ∙ (ap (λ (n : ℕ). nat_le n d || is_cut m) count
-    ∙ ap (λ (k : Mark). nat_le a' d || is_cut k) mark)
+ended_as r a a' d m m' is count mark = is ∙ rw (count, mark) refl
 
 -- ---- the engine that is fed
 
@@ -220,7 +202,7 @@ takes_block hdu x used on running fits within =
     let less = few_ended (length (engines_of x.part)) (shard_cleared x) (sym on.over ∙ running) in
     let h = on.engines d less in (
       h.0,
-      subst (λ (k : ℕ). HasEngine (engines_of x.part) k h.0) (sym on.done) h.1,
+      rw on.done h.1,
       h.2.ended ∙ not_below_itself d,
       most_more (length (shard_cleared x)) (data_shape hdu).max_blocks (data_shape hdu).size h.0.fed used most_fed
           h.2.most fits within on.few,
@@ -229,38 +211,17 @@ takes_block hdu x used on running fits within =
 -- ---- a shard that retired
 
 retired_stays : (pass : HduEnded) → IsRetired pass → IsHereOrRetired pass
-retired_stays (Here reader) retired = tt
+retired_stays (Here reader) retired = absurd retired
 retired_stays (Away reader) retired = absurd retired
 retired_stays (Retired reader) retired = tt
 
 module _ (hdu : Hdu) (x y : ShardActor) (same : HasRested x.pass y.pass) (part : y.part ≡ x.part)
     (turns : y.turns ≡ x.turns) where
-  cleared_still : shard_cleared y ≡ shard_cleared x
-  cleared_still = same.blocks.cleared
-
   pub on_retired : EndedFromBoth hdu y.pass → IsRetired y.pass → vec_len y.space ≡ vec_len x.space → y.done ≡ x.done →
       y.ended ≡ x.ended → x.ended ≡ true → ShardOn hdu x → ShardOn hdu y
-  on_retired reads retired space done ended over on =
-      let header_room = on.header_room in
-      let count = on.count in
-      record {
-        reads = reads;
-        here = λ running. absurd (apart y.ended (ended ∙ over) running);
-        stays = retired_stays y.pass retired;
-        header_room = omega arith;
-        few = on.few;
-        done = done ∙ (on.done ∙ ap ended_transfers (sym cleared_still));
-        over = ended ∙ (on.over
-            ∙ (ap (λ (l : List Entry). is_over (length (engines_of x.part)) l) (sym cleared_still)
-            ∙ ap (λ (bank : Bank). is_over (length (engines_of bank)) (shard_cleared y)) (sym part)));
-        engines = subst (λ (bank : Bank). AreEnginesAt (data_shape hdu).size (shard_cleared y) (engines_of bank))
-            (sym part) (subst (λ (l : List Entry). AreEnginesAt (data_shape hdu).size l (engines_of x.part))
-            (sym cleared_still) on.engines);
-        count = omega arith;
-      }
-    where
-      apart : (b : Bool) → b ≡ true → b ≡ false → ⊥
-      apart b t f = cc
+  on_retired reads retired space done ended over = on_kept x y same.blocks.cleared part hdu reads
+      (λ running. absurd (false≢true (sym running ∙ ended ∙ over))) (retired_stays y.pass retired) space turns done
+      ended
 
   pub moved_retired : x.turns < 2 ^ 64 → y.ended ≡ x.ended → ShardMoved 0 x y
   moved_retired small ended =
@@ -275,9 +236,6 @@ module _ (hdu : Hdu) (x y : ShardActor) (same : HasRested x.pass y.pass) (part :
         turns = omega arith;
         reads = no_reads (HasMore (length (engines_of x.part))) x.pass y.pass same;
         tries = omega arith;
-        grown = ([], cleared_still ∙ sym (append-nil (shard_cleared x)));
-        engines = subst (λ (bank : Bank). EnginesFollow (shard_cleared x) (shard_cleared y) (engines_of x.part)
-            (engines_of bank)) (sym part)
-            (follow_still (shard_cleared x) (shard_cleared y) (engines_of x.part)
-            cleared_still);
+        grown = begins_same (shard_cleared x) (shard_cleared y) same.blocks.cleared;
+        engines = follow_kept x y same.blocks.cleared part;
       }

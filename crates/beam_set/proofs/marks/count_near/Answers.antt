@@ -1,10 +1,9 @@
-use Rattle.std.proofs.Common.{◌+◌, List, [], ◌∙◌, take, ap, sym, subst, arith}
+use Rattle.std.proofs.Common.{◌+◌, List, [], ◌∙◌, take, ap, sym, arith}
 use Rattle.std.specs.List.{list_any}
 use Rattle.std.proofs.lemmas.List.{length-map, length-take-le, take_all}
 use Rattle.std.proofs.lemmas.List.Sums.{count_by_more_yes, count_by_more_no, count_by-le-length}
 use Rattle.search_model.specs.declared.candidate.Candidate.{Candidate}
-use Rattle.beam_set.specs.Marks.{is_near, near_beams}
-use Rattle.beam_set.specs.Ends.{EndsRise}
+use Rattle.beam_set.specs.Marks.{is_near}
 use Rattle.beam_set.specs.Text.{FoundBeam}
 use Rattle.beam_set.specs.Beams.{found_at, found_in, lists_in}
 use Rattle.beam_set.proofs.Placed.{listed, list_is}
@@ -16,7 +15,7 @@ keeps_near-requires c =
     let beams = c.args.beams.now in
     let k = c.loop-k.k in
     let beam = c.index-beams-k.result in
-    subst EndsRise (list_is beams k beam c.loop-k-test.true c.index-beams-k.is)
+    rw (list_is beams k beam c.loop-k-test.true c.index-beams-k.is) at
     (c.requires k [] (listed beams k beam c.loop-k-test.true c.index-beams-k.is))
 
 pub loop-k-preserved : goal.loop-k-preserved
@@ -58,6 +57,4 @@ returns c =
     let lists = lists_in beams in
     let long = length-map beams found_at in
     let longer = length-map (found_in beams) (λ (f : FoundBeam). f.list) in
-    c.loop-k.invariant.counted
-    ∙ ap (λ xs. near_beams xs c.args.within c.args.spectrum)
-    (take_all c.loop-k.k lists (omega (arith, long, longer, c.loop-k-test.false)))
+    rw (take_all c.loop-k.k lists (omega (arith, long, longer, c.loop-k-test.false))) at c.loop-k.invariant.counted

@@ -1,6 +1,5 @@
-use Rattle.std.proofs.Common.{List, ◌++◌, Option, sym, ◌∙◌, subst}
-use Rattle.beam_set.specs.declared.beam.Beam.{Beam}
-use Rattle.beam_set.specs.Sets.{EachPair, PairsMoved, SlotOn, SlotMoved}
+use Rattle.std.proofs.Common.{◌++◌, sym, ◌∙◌}
+use Rattle.beam_set.specs.Sets.{EachPair, SlotOn, SlotMoved}
 use Rattle.beam_set.proofs.Pairing.{pairs_right, moved_join}
 use Rattle.beam_set.proofs.rounds.+halves.Goals as goal
 
@@ -11,8 +10,7 @@ drive_from-drive_halves-requires-clause-right g t c κs within =
     let xs = c.split-rest.new.beams.items in
     let zs = c.split-rest.result.items in
     let all : EachPair On (xs ++ zs) (cut.result.0.now ++ cut.result.1.now) =
-    subst (λ (l : List g.row.I.Denot). EachPair On (xs ++ zs) l) cut.ensures.value
-    (subst (λ (l : List (Option Beam)). EachPair On l c.args.inputs.now) (sym c.split-rest.ensures.all) c.requires) in
+    rw (c.split-rest.ensures.all, sym cut.ensures.value) c.requires in
     pairs_right On xs zs cut.result.0.now cut.result.1.now (cut.ensures.front_len ∙ c.len-2.ensures.value) all
 
 pub drive_from-returns-clause-moved : goal.drive_from-returns-clause-moved
@@ -24,12 +22,6 @@ drive_from-returns-clause-moved g t c =
     let zs = c.split-rest.result.items in
     let us = cut.result.0.now in
     let vs = cut.result.1.now in
-    let after = both.new.left_inputs ++ both.new.right_inputs in
     let moved = moved_join Moved xs zs both.new.left.items both.new.right.items us vs both.new.left_inputs
     both.new.right_inputs (cut.ensures.front_len ∙ c.len-2.ensures.value) both.ensures.left_moved both.ensures.right_moved in
-    subst (λ (l : List (Option Beam)). PairsMoved Moved c.args.inputs.now c.args.beams.now.items after l)
-    (sym c.append.ensures)
-    (subst (λ (l : List (Option Beam)). PairsMoved Moved c.args.inputs.now l after
-    (both.new.left.items ++ both.new.right.items)) c.split-rest.ensures.all
-    (subst (λ (l : List g.row.I.Denot). PairsMoved Moved l (xs ++ zs) after
-    (both.new.left.items ++ both.new.right.items)) (sym cut.ensures.value) moved))
+    rw (c.append.ensures, sym c.split-rest.ensures.all, cut.ensures.value) moved

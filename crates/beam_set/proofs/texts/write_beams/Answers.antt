@@ -1,8 +1,6 @@
-use Rattle.std.proofs.Common.{◌≡◌, [], All, length, subst, arith}
+use Rattle.std.proofs.Common.{◌≡◌, [], length, sym, arith}
 use Rattle.std.proofs.lemmas.List.{length-map}
 use Rattle.std.proofs.lemmas.Result.{err_from_is_err_and}
-use Rattle.psr_base.specs.Written.{WroteAll, WroteFront, first_pieces}
-use Rattle.candidate_book.specs.Conditions.{IsSearched}
 use Rattle.beam_set.specs.Beams.{found_at, found_in}
 use Rattle.beam_set.proofs.Placed.{inside, listed, list_is, piece, piece_is}
 use Rattle.beam_set.proofs.texts.write_beams.Goals as goal
@@ -12,7 +10,7 @@ write_beam-requires-clause-searched g c =
     let beams = c.args.beams.now in
     let k = c.loop-k.k in
     let beam = c.index-beams-k.result in
-    subst (All IsSearched) (list_is beams k beam c.loop-k-test.true c.index-beams-k.is)
+    rw (list_is beams k beam c.loop-k-test.true c.index-beams-k.is) at
     (c.requires.searched k [] (listed beams k beam c.loop-k-test.true c.index-beams-k.is))
 
 pub loop-k-preserved : goal.loop-k-preserved
@@ -28,7 +26,7 @@ loop-k-preserved g c =
     record {
       written = c.pieces_join.ensures.loops.one_more (piece o c.args.within c.args.more beams) k
           (g.K.Sink.seen c.args.sink.now) middle new c.loop-k.invariant.written
-          (subst (λ t. WroteAll t middle new) text c.in_ok-write_beam.ensures.all);
+          (rw text at c.in_ok-write_beam.ensures.all);
     }
 
 pub returns-in_err-write_beam : goal.returns-in_err-write_beam
@@ -47,7 +45,7 @@ returns-in_err-write_beam g c =
       front = c.pieces_join.ensures.loops.stops (piece o c.args.within c.args.more beams) k (length (found_in beams))
           (g.K.Sink.seen c.args.sink.now) middle new
           (inside beams k c.index-beams-k.result c.loop-k-test.true c.index-beams-k.is) c.loop-k.invariant.written
-          (subst (λ t. WroteFront t middle new) text c.in_err-write_beam.ensures.front);
+          (rw text at c.in_err-write_beam.ensures.front);
     })
 
 pub returns : goal.returns
@@ -56,7 +54,6 @@ returns g c =
     let long = length-map beams found_at in
     let all : c.loop-k.k ≡ length (found_in beams) = omega (arith, long, c.loop-k-test.false, c.loop-k.auto.k-end) in
     record {
-      all = subst (λ n. WroteAll (first_pieces (piece c.args.obs.now c.args.within c.args.more beams) n)
-          (g.K.Sink.seen c.args.sink.now) (g.K.Sink.seen c.loop-k.sink)) all c.loop-k.invariant.written;
+      all = rw (sym all) c.loop-k.invariant.written;
       front = tt;
     }

@@ -1,13 +1,12 @@
-use Rattle.std.proofs.Common.{◌≡◌, ℕ, false, ◌+◌, length, refl, sym, ap, ◌∙◌, arith}
+use Rattle.std.proofs.Common.{◌≡◌, false, ◌+◌, length, refl, sym, ◌∙◌, arith}
 use Rattle.std.specs.Prelude.{if◌then◌else◌}
 use Rattle.ring_blocks.specs.declared.Entry.{Entry}
-use Rattle.ring_blocks.specs.declared.Mark.{Mark}
 use Rattle.dada_hdu.specs.Passes.{data_shape}
 use Rattle.stream_model.specs.Blocks.{is_end}
-use Rattle.session_readers.proofs.Engines.{can_end, fed_then_ended, ended_at}
+use Rattle.session_readers.proofs.Engines.{can_end, fed_then_ended}
 use Rattle.session_readers.proofs.Turning.{on_still, stepped_still, within_was, done_below, one_most, takes_block, ended_as, on_fed, stepped_fed}
 use Rattle.session_readers.proofs.shard.ShardActor.take_block.Goals as goal
-use Rattle.session_readers.specs.Banks.{engines_of}
+use Rattle.session_readers.specs.Banks.{WasFedAt, engines_of}
 
 pub feed_block-requires-clause-ready : goal.feed_block-requires-clause-ready
 feed_block-requires-clause-ready c = λ block within fits.
@@ -49,11 +48,11 @@ returns c =
     let p = c.in-Some.ensures.passed in
     let block : Entry = p.block in
     let banks = engines_of c.end_or_search.new.bank in
-    let fed = ended_at (engines_of x.part) banks x.done block.bytes c.in-Some.taken.mark block.mark p.mark
-    (fed_then_ended (engines_of x.part) (engines_of c.feed_block.new.bank) banks x.done block.bytes
+    let fed : WasFedAt (engines_of x.part) x.done block.bytes (is_end block.mark) banks =
+    rw (sym p.mark) (fed_then_ended (engines_of x.part) (engines_of c.feed_block.new.bank) banks x.done block.bytes
     (is_end c.in-Some.taken.mark) p.fed c.end_or_search.ensures) in
     let done : x.done + c.ended_with.result ≡ x.done + (if is_end block.mark then 1 else 0) =
-    ap (λ (n : ℕ). x.done + n) (c.ended_with.ensures ∙ ap (λ (m : Mark). if is_end m then 1 else 0) p.mark) in
+    rw (c.ended_with.ensures, p.mark) refl in
     record {
       on = on_fed hdu x _ c.in-Here.reader c.feed_block.new.reader c.in-Here.is refl c.ends_are_counted.ensures
           c.entries_are_of_transfers.ensures block p.cleared p.fits c.requires.on fed c.in-Some.ensures.reads refl
