@@ -41,10 +41,7 @@ one_stop a b e = cc
 stop_at_end : (bytes limit : ℕ) (stop : WalkStop) →
     stop_of_feed (end_of bytes limit stop) ≡ stop_of_walk limit stop
 stop_at_end bytes limit walk.Whole = refl
-stop_at_end bytes limit (walk.BadText file refusal) = refl
-stop_at_end bytes limit (walk.BadFields file fault) = refl
-stop_at_end bytes limit (walk.Gap file expected found) = refl
-stop_at_end bytes limit (walk.TooLong file) = refl
+stop_at_end bytes limit stop = refl
 
 -- what stops the walk stops the run
 walk_stopped : (w : FileStream) (size : ℕ) (blocks : List Entry) (end : FeedEnd) (stop : Option Stop) →
@@ -56,10 +53,7 @@ walk_stopped w size blocks end stop e is =
 -- a walk without a stop is whole
 whole_walk : (limit : ℕ) (stop : WalkStop) → stop_of_walk limit stop ≡ None → stop ≡ walk.Whole
 whole_walk limit walk.Whole is = refl
-whole_walk limit (walk.BadText file refusal) is = absurd cc
-whole_walk limit (walk.BadFields file fault) is = absurd cc
-whole_walk limit (walk.Gap file expected found) is = absurd cc
-whole_walk limit (walk.TooLong file) is = absurd cc
+whole_walk limit stop is = absurd cc
 
 -- ---- the statuses
 
@@ -111,8 +105,7 @@ module _ (task : Task) (words : List (List ℕ)) (told : Told) (blocks : Finishe
   all_made (recorder.Whole count) files n zeroth can made = (ap (λ k. recorder.Whole k) made.0, made.1)
   all_made (recorder.Cut count) files n zeroth can made = absurd (not_cut n can zeroth)
   all_made recorder.FileFault files n zeroth can made = absurd (not_failed n can zeroth)
-  all_made (recorder.BadHeader fault) files n zeroth can made = absurd can
-  all_made (recorder.TooLong limit) files n zeroth can made = absurd can
+  all_made end files n zeroth can made = absurd can
 
   -- the files of all data are those of the stream, where more than a feeder's stop is to say
   recorded_at : (end : FeedEnd) (n : ℕ) → IsRecorded task words told blocks end answer before after →
@@ -405,8 +398,7 @@ module _ (task : Task) (words : List (List ℕ)) (told : Told) (blocks : Finishe
       no_fault e = cc
   can_late bytes n late (recorder.Cut count) at cut = absurd (cut bytes refl)
   can_late bytes n late recorder.FileFault at any = not_first n late.known (λ zeroth. late.all zeroth at)
-  can_late bytes n late (recorder.BadHeader fault) at never = absurd never
-  can_late bytes n late (recorder.TooLong limit) at never = absurd never
+  can_late bytes n late end at never = absurd never
 
   pub ends_whole : WholeRunsRecordData → (end : FeedEnd) (n : ℕ) → IsRunFed task words told blocks end →
       IsRecorded task words told blocks end answer before after → stop_of_feed end ≡ None →
@@ -434,7 +426,4 @@ module _ (task : Task) (words : List (List ℕ)) (told : Told) (blocks : Finishe
         },
         λ s files says are. (f.begun.1 s files says (told_at told s.names files are), whole s files says are),
       )
-  ends_whole law feed.ReadFault n f r is late = absurd cc
-  ends_whole law (feed.BadHeader file cause) n f r is late = absurd cc
-  ends_whole law (feed.Gap file expected found) n f r is late = absurd cc
-  ends_whole law (feed.TooLong limit) n f r is late = absurd cc
+  ends_whole law end n f r is late = absurd cc

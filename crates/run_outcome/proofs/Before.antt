@@ -1,5 +1,5 @@
 -- What the exit status says where a run stops before its session.
-use Rattle.std.proofs.Common.{◌≢◌, ℕ, List, [], ◌∷◌, refl, inl, inr, None, Contains, lit<, arith, ◌∙◌, sym}
+use Rattle.std.proofs.Common.{◌≢◌, ◌⊎◌, ℕ, List, [], ◌∷◌, refl, inl, inr, None, Contains, lit<, arith, ◌∙◌, sym}
 use Rattle.psr_base.specs.Told.{Told}
 use Rattle.psr_base.specs.Made.{FilesSeen}
 use Rattle.ring_ends.specs.declared.finished.Finished.{Finished}
@@ -8,14 +8,18 @@ use Rattle.disk_feeder.specs.declared.answers.HeaderCause.{HeaderCause}
 use Rattle.run_outcome.specs.declared.causes.PlanCause.{PlanCause}
 use Rattle.run_outcome.specs.declared.causes.RecordingCause.{RecordingCause}
 use Rattle.run_outcome.specs.declared.stop.Stop.{Stop}
-use Rattle.run_outcome.specs.declared.stop.Stop.TheVariants.{Words, Value, Header, Plan, Recording, Memory, ReadFault, Gap, TooLong, TooMany, SinkFault, FileFault}
+use Rattle.run_outcome.specs.declared.stop.Stop.TheVariants.{Header, Plan, Recording, Memory, ReadFault}
 use Rattle.run_outcome.specs.Texts.{status_of}
-use Rattle.run_outcome.specs.Runs.{Task, Searching, RecordingAlone, Alone, SaysOfFiles}
+use Rattle.run_outcome.specs.Runs.{Task, Searching, RecordingAlone, Alone, RefusesSearches, RefusesRecordings, SaysOfFiles}
 use Rattle.run_outcome.specs.Outcomes.{StopsAtFiles, SealsStream, RecordsFiles}
 use Rattle.run_outcome.specs.Ends.{StopsBefore, EndsAt, WordsSayOnce}
+use Rattle.run_outcome.proofs.Statuses.{OneOf, one_of, among}
 
 abbrev early : List ℕ
 early = 2 ∷ 3 ∷ 4 ∷ 5 ∷ 6 ∷ []
+
+abbrev plain : List ℕ
+plain = 2 ∷ 5 ∷ 6 ∷ []
 
 module _ (task : Task) (words : List (List ℕ)) (told : Told) where
   -- a status at which no file stops the run
@@ -58,13 +62,13 @@ module _ (task : Task) (words : List (List ℕ)) (told : Told) where
     count = omega arith;
   }
 
-  ends_early : (n : ℕ) → Contains early n → n ≢ 0 → n ≢ 11 →
-      StopsAtFiles task words told None n →
+  ends_early : (n : ℕ) → Contains early n → StopsAtFiles task words told None n →
       (seen : FilesSeen) → EndsAt task words told None None seen seen n
-  ends_early n known zeroth last stopped seen = record {
+  ends_early n known stopped seen = record {
     stopped = stopped;
     sealed = none_sealed n known;
-    recorded = none_recorded n zeroth last seen;
+    recorded = none_recorded n (λ e. omega (arith, one_of early n known, e))
+        (λ e. omega (arith, one_of early n known, e)) seen;
   }
 
   -- the first header of a transfer is refused
@@ -78,65 +82,40 @@ module _ (task : Task) (words : List (List ℕ)) (told : Told) where
     too_long = λ e. absurd (omega (arith, e));
   }
 
-  plan_stopped : (cause : PlanCause) → StopsBefore task words told (Plan cause) →
-      StopsAtFiles task words told None 4
-  plan_stopped cause b = record {
+  -- a search or a recording is
+  plan_stopped : ((cause : PlanCause) × RefusesSearches task words told cause)
+      ⊎ ((cause : RecordingCause) × RefusesRecordings task words told cause) → StopsAtFiles task words told None 4
+  plan_stopped says = record {
     first_header = λ e. absurd (omega (arith, e));
     later_header = λ e. absurd (omega (arith, e));
-    plan = λ e. inl (cause, b.says);
-    gap = λ e. absurd (omega (arith, e));
-    too_long = λ e. absurd (omega (arith, e));
-  }
-
-  recording_stopped : (cause : RecordingCause) → StopsBefore task words told (Recording cause) →
-      StopsAtFiles task words told None 4
-  recording_stopped cause b = record {
-    first_header = λ e. absurd (omega (arith, e));
-    later_header = λ e. absurd (omega (arith, e));
-    plan = λ e. inr (cause, b.says);
+    plan = λ e. says;
     gap = λ e. absurd (omega (arith, e));
     too_long = λ e. absurd (omega (arith, e));
   }
 
   -- a status that says nothing of the files
-  pub ends_plainly : (n : ℕ) → Contains early n → n ≢ 3 → n ≢ 4 → n ≢ 7 → n ≢ 8 → n ≢ 0 → n ≢ 11 →
-      (seen : FilesSeen) → EndsAt task words told None None seen seen n
-  ends_plainly n known three four seven eight zeroth last =
-      ends_early n known zeroth last (none_stopped None n three four seven eight)
+  pub ends_plainly : (n : ℕ) → Contains plain n → (seen : FilesSeen) → EndsAt task words told None None seen seen n
+  ends_plainly n known =
+      let other : OneOf plain n = one_of plain n known in
+      ends_early n (among plain early n known refl) (none_stopped None n (λ e. omega (arith, other, e))
+      (λ e. omega (arith, other, e)) (λ e. omega (arith, other, e)) (λ e. omega (arith, other, e)))
 
   pub at_status : (stop : Stop) → StopsBefore task words told stop → (seen : FilesSeen) →
       EndsAt task words told None None seen seen (status_of stop)
-  at_status Words b = absurd b.kind
-  at_status (Value opt) b = absurd b.kind
-  at_status (Header file cause) b =
-      ends_early 3 (1, lit< tt, refl) (λ e. omega (arith, e)) (λ e. omega (arith, e)) (header_stopped file cause b)
-  at_status (Plan cause) b =
-      ends_early 4 (2, lit< tt, refl) (λ e. omega (arith, e)) (λ e. omega (arith, e)) (plan_stopped cause b)
-  at_status (Recording cause) b =
-      ends_early 4 (2, lit< tt, refl) (λ e. omega (arith, e)) (λ e. omega (arith, e)) (recording_stopped cause b)
-  at_status Memory b = ends_plainly 5 (3, lit< tt, refl) (λ e. omega (arith, e)) (λ e. omega (arith, e))
-      (λ e. omega (arith, e)) (λ e. omega (arith, e)) (λ e. omega (arith, e)) (λ e. omega (arith, e))
-  at_status ReadFault b = ends_plainly 6 (4, lit< tt, refl) (λ e. omega (arith, e)) (λ e. omega (arith, e))
-      (λ e. omega (arith, e)) (λ e. omega (arith, e)) (λ e. omega (arith, e)) (λ e. omega (arith, e))
-  at_status (Gap file expected found) b = absurd b.kind
-  at_status (TooLong limit) b = absurd b.kind
-  at_status (TooMany count limit) b = absurd b.kind
-  at_status SinkFault b = absurd b.kind
-  at_status FileFault b = absurd b.kind
+  at_status (Header file cause) b = ends_early 3 (1, lit< tt, refl) (header_stopped file cause b)
+  at_status (Plan cause) b = ends_early 4 (2, lit< tt, refl) (plan_stopped (inl (cause, b.says)))
+  at_status (Recording cause) b = ends_early 4 (2, lit< tt, refl) (plan_stopped (inr (cause, b.says)))
+  at_status Memory b = ends_plainly 5 (1, lit< tt, refl)
+  at_status ReadFault b = ends_plainly 6 (2, lit< tt, refl)
+  at_status stop b = absurd b.kind
 
   pub says_of : (stop : Stop) → StopsBefore task words told stop → SaysOfFiles task words told stop
-  says_of Words b = absurd b.kind
-  says_of (Value opt) b = absurd b.kind
   says_of (Header file cause) b = inl b.says
   says_of (Plan cause) b = b.says
   says_of (Recording cause) b = b.says
   says_of Memory b = tt
   says_of ReadFault b = tt
-  says_of (Gap file expected found) b = absurd b.kind
-  says_of (TooLong limit) b = absurd b.kind
-  says_of (TooMany count limit) b = absurd b.kind
-  says_of SinkFault b = absurd b.kind
-  says_of FileFault b = absurd b.kind
+  says_of stop b = absurd b.kind
 
 pub say_once : WordsSayOnce
 say_once Searching words s t a b = a.values ∙ sym b.values

@@ -12,7 +12,7 @@ use Rattle.disk_feeder.specs.declared.answers.FeedEnd.{FeedEnd}
 use Rattle.disk_feeder.specs.declared.answers.FeedEnd.TheVariants as feed
 use Rattle.disk_feeder.specs.Filling.{HoldsAll}
 use Rattle.run_outcome.specs.declared.stop.Stop.{Stop}
-use Rattle.run_outcome.specs.declared.stop.Stop.TheVariants.{Words, Value, Header, Plan, Recording, Memory, ReadFault, Gap, TooLong, TooMany, SinkFault, FileFault}
+use Rattle.run_outcome.specs.declared.stop.Stop.TheVariants.{Header, Plan, Recording, Memory, ReadFault, Gap, TooLong}
 use Rattle.run_outcome.specs.Texts.{status_of}
 use Rattle.run_outcome.specs.Conversions.{stop_of_words, stop_of_feed}
 use Rattle.run_outcome.specs.Lone.{LoneSearch, SayAlone, IsOfOther, ExplainsAlone}
@@ -42,47 +42,21 @@ record IsEarly (n : ℕ) : Type 0 where
   pub most : n ≤ 6
 
 early : (stop : Stop) → ComesBefore stop → IsEarly (status_of stop)
-early Words kind = absurd kind
-early (Value opt) kind = absurd kind
 early (Header file cause) kind = record { least = omega arith; most = omega arith }
 early (Plan cause) kind = record { least = omega arith; most = omega arith }
 early (Recording cause) kind = record { least = omega arith; most = omega arith }
 early Memory kind = record { least = omega arith; most = omega arith }
 early ReadFault kind = record { least = omega arith; most = omega arith }
-early (Gap file expected found) kind = absurd kind
-early (TooLong limit) kind = absurd kind
-early (TooMany count limit) kind = absurd kind
-early SinkFault kind = absurd kind
-early FileFault kind = absurd kind
+early stop kind = absurd kind
 
 -- 5 is that of want of memory, and 6 that of the inputs' fault
 pub five_is : (stop : Stop) → status_of stop ≡ 5 → stop ≡ Memory
-five_is Words e = absurd (omega (arith, e))
-five_is (Value opt) e = absurd (omega (arith, e))
-five_is (Header file cause) e = absurd (omega (arith, e))
-five_is (Plan cause) e = absurd (omega (arith, e))
-five_is (Recording cause) e = absurd (omega (arith, e))
 five_is Memory e = refl
-five_is ReadFault e = absurd (omega (arith, e))
-five_is (Gap file expected found) e = absurd (omega (arith, e))
-five_is (TooLong limit) e = absurd (omega (arith, e))
-five_is (TooMany count limit) e = absurd (omega (arith, e))
-five_is SinkFault e = absurd (omega (arith, e))
-five_is FileFault e = absurd (omega (arith, e))
+five_is stop e = absurd (omega (arith, e))
 
 pub six_is : (stop : Stop) → status_of stop ≡ 6 → stop ≡ ReadFault
-six_is Words e = absurd (omega (arith, e))
-six_is (Value opt) e = absurd (omega (arith, e))
-six_is (Header file cause) e = absurd (omega (arith, e))
-six_is (Plan cause) e = absurd (omega (arith, e))
-six_is (Recording cause) e = absurd (omega (arith, e))
-six_is Memory e = absurd (omega (arith, e))
 six_is ReadFault e = refl
-six_is (Gap file expected found) e = absurd (omega (arith, e))
-six_is (TooLong limit) e = absurd (omega (arith, e))
-six_is (TooMany count limit) e = absurd (omega (arith, e))
-six_is SinkFault e = absurd (omega (arith, e))
-six_is FileFault e = absurd (omega (arith, e))
+six_is stop e = absurd (omega (arith, e))
 
 -- the stop of a feeder, which says nothing of the words
 record IsFeedStop (task : Task) (words : List (List ℕ)) (end : FeedEnd) (stop : Stop) : Type 0 where
@@ -139,18 +113,12 @@ not_fault (feed.TooLong limit) is f = cc
 
 -- nor does one between the words and the session
 silent : (task : Task) (words : List (List ℕ)) (stop : Stop) → ComesBefore stop → IsStopOfWords task words stop
-silent task words Words kind = absurd kind
-silent task words (Value opt) kind = absurd kind
 silent task words (Header file cause) kind = tt
 silent task words (Plan cause) kind = tt
 silent task words (Recording cause) kind = tt
 silent task words Memory kind = tt
 silent task words ReadFault kind = tt
-silent task words (Gap file expected found) kind = absurd kind
-silent task words (TooLong limit) kind = absurd kind
-silent task words (TooMany count limit) kind = absurd kind
-silent task words SinkFault kind = absurd kind
-silent task words FileFault kind = absurd kind
+silent task words stop kind = absurd kind
 
 module _ (is_calm : Type 0) (task : Task) (words : List (List ℕ)) where
   -- ---- at the words
@@ -229,8 +197,7 @@ at_words is_calm task words inputs seen fault stop why is still =
     refused f out two = record {
       judged = judges is_calm task words (unsaid task f out two);
       read = still_read is_calm task words inputs still 2 (λ e. omega (arith, e));
-      ends = ends_plainly task words inputs.told 2 (0, lit< tt, refl) (λ e. omega (arith, e)) (λ e. omega (arith, e))
-          (λ e. omega (arith, e)) (λ e. omega (arith, e)) (λ e. omega (arith, e)) (λ e. omega (arith, e)) seen;
+      ends = ends_plainly task words inputs.told 2 (0, lit< tt, refl) seen;
     }
 
     by_fault : (f : WordFault) → Explains task words f →
@@ -256,9 +223,7 @@ at_words is_calm task words inputs seen fault stop why is still =
       run = record {
         judged = record { refused = λ e. absurd (omega (arith, e)); said = λ e f. absurd (f refl) };
         read = still_read is_calm task words inputs still 5 (λ e. omega (arith, e));
-        ends = ends_plainly task words inputs.told 5 (3, lit< tt, refl) (λ e. omega (arith, e))
-            (λ e. omega (arith, e)) (λ e. omega (arith, e)) (λ e. omega (arith, e)) (λ e. omega (arith, e))
-            (λ e. omega (arith, e)) seen;
+        ends = ends_plainly task words inputs.told 5 (1, lit< tt, refl) seen;
       };
       said = (tt, tt);
     }

@@ -19,7 +19,7 @@ use Rattle.disk_feeder.specs.Reading.{StopsAtFile}
 use Rattle.run_outcome.specs.declared.causes.PlanCause.{PlanCause}
 use Rattle.run_outcome.specs.declared.causes.RecordingCause.{RecordingCause}
 use Rattle.run_outcome.specs.declared.stop.Stop.{Stop}
-use Rattle.run_outcome.specs.declared.stop.Stop.TheVariants.{Words, Value, Header, Plan, Recording, Memory, ReadFault, Gap, TooLong, TooMany, SinkFault, FileFault}
+use Rattle.run_outcome.specs.declared.stop.Stop.TheVariants.{Header, Plan, Recording, Gap, TooLong}
 use Rattle.run_outcome.specs.Texts.{status_of}
 use Rattle.run_outcome.specs.Firsts.{first_at, HasHeader, EachFirst, HaveHeaders, BreaksFirstAt, RefusesFirstText}
 use Rattle.run_outcome.specs.Runs.{Task, Searching, RecordingAlone, Alone, SettingsFor, Says, stream_for, CanBegin, PassesTo, RefusesSearches, RefusesRecordings, IsWalkStop}
@@ -212,48 +212,21 @@ module _ (task : Task) (words : List (List ℕ)) (inputs : InputsSeen) (is_calm 
     cannot_begin (Header file (Fields fault)) r begins = first_accepted w file (Fields fault) begins.accepted r
     cannot_begin (Plan cause) r begins = can_search task s.search r.0 w cause begins.searched r.1
     cannot_begin (Recording cause) r begins = records task s w cause begins.recorded r
-    cannot_begin (Header file (Text fault)) r begins = r
-    cannot_begin Words r begins = r
-    cannot_begin (Value opt) r begins = r
-    cannot_begin Memory r begins = r
-    cannot_begin ReadFault r begins = r
-    cannot_begin (Gap file expected found) r begins = r
-    cannot_begin (TooLong limit) r begins = r
-    cannot_begin (TooMany count limit) r begins = r
-    cannot_begin SinkFault r begins = r
-    cannot_begin FileFault r begins = r
+    cannot_begin stop r begins = r
 
     at_three : (stop : Stop) → RefusesByFirsts task s w stop → blocks ≡ None → n ≡ 3 → n ≡ status_of stop
     at_three (Header file (Fields fault)) r none e = e
     at_three (Plan cause) r none e =
         absurd (none_refused (of_search task s.search r.0 (λ search refused. refused.accepted) r.1) none e)
     at_three (Recording cause) r none e = absurd (none_refused r.accepted none e)
-    at_three (Header file (Text fault)) r none e = absurd r
-    at_three Words r none e = absurd r
-    at_three (Value opt) r none e = absurd r
-    at_three Memory r none e = absurd r
-    at_three ReadFault r none e = absurd r
-    at_three (Gap file expected found) r none e = absurd r
-    at_three (TooLong limit) r none e = absurd r
-    at_three (TooMany count limit) r none e = absurd r
-    at_three SinkFault r none e = absurd r
-    at_three FileFault r none e = absurd r
+    at_three stop r none e = absurd r
 
     at_four : (stop : Stop) → RefusesByFirsts task s w stop → n ≡ 4 → n ≡ status_of stop
     at_four (Header file (Fields fault)) r e =
         absurd (first_accepted w file (Fields fault) (are_walked (stopped.plan e)) r)
     at_four (Plan cause) r e = e
     at_four (Recording cause) r e = e
-    at_four (Header file (Text fault)) r e = absurd r
-    at_four Words r e = absurd r
-    at_four (Value opt) r e = absurd r
-    at_four Memory r e = absurd r
-    at_four ReadFault r e = absurd r
-    at_four (Gap file expected found) r e = absurd r
-    at_four (TooLong limit) r e = absurd r
-    at_four (TooMany count limit) r e = absurd r
-    at_four SinkFault r e = absurd r
-    at_four FileFault r e = absurd r
+    at_four stop r e = absurd r
 
     pub first_answered : (stop : Stop) → RefusesByFirsts task s w stop → EndsSo stop n
     first_answered stop r = ends_before (status_of stop)
