@@ -25,6 +25,7 @@ use Rattle.run_outcome.specs.Runs.{Task, SettingsFor, Says, ForFiles, ForFirsts,
 use Rattle.run_outcome.specs.Outcomes.{StopsAtFiles, BreaksStream, SealsStream, RecordsFiles, MadeAll, MadeFront, MadeBy, CanEndAt, files_of_stream, files_of_data}
 use Rattle.run_outcome.specs.Laws.{WholeRunsRecordData}
 use Rattle.run_outcome.specs.Ends.{IsRunFed, EndsAsFed, IsRecorded, IsLate, EndsAt}
+use Rattle.run_outcome.proofs.Statuses.{apart}
 use Rattle.run_outcome.proofs.Before.{none_stopped}
 use Rattle.run_outcome.proofs.Needs.{told_at}
 
@@ -146,14 +147,6 @@ module _ (task : Task) (words : List (List ℕ)) (told : Told) (blocks : Finishe
     where
       no_end : None ≡ Some recorder.FileFault → ⊥
       no_end e = cc
-
-  -- a status of a run whose data were all sealed is none of those between
-  pub apart : (n m : ℕ) → Contains (0 ∷ 9 ∷ 10 ∷ 11 ∷ []) n → 0 < m → m < 9 → n ≢ m
-  apart n m (zero, below, is) some few e = omega (arith, is, e, some)
-  apart n m (suc zero, below, is) some few e = omega (arith, is, e, few)
-  apart n m (suc (suc zero), below, is) some few e = omega (arith, is, e, few)
-  apart n m (suc (suc (suc zero)), below, is) some few e = omega (arith, is, e, few)
-  apart n m (suc (suc (suc (suc k))), below, is) some few e = omega (arith, below)
 
   -- where all files are told, so are those that judge an end
   all_told : (file : ℕ) (end : FeedEnd) →

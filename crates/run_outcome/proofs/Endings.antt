@@ -21,7 +21,8 @@ use Rattle.run_outcome.specs.Outcomes.{JudgesWords, ReadsInputs}
 use Rattle.run_outcome.specs.Laws.{WholeRunsRecordData}
 use Rattle.run_outcome.specs.Ends.{EndsAt, EndsRun, EndsShort, short_statuses, CountsFaults, ComesBefore, EndAtWords, EndBeforeSession, EndAtStop, EndAfterWhole}
 use Rattle.run_outcome.proofs.Before.{say_once, ends_plainly, at_status, says_of}
-use Rattle.run_outcome.proofs.After.{apart, ends_stopped, ends_whole}
+use Rattle.run_outcome.proofs.After.{ends_stopped, ends_whole}
+use Rattle.run_outcome.proofs.Statuses.{apart}
 
 one_stop : (a b : Stop) → Some a ≡ Some b → a ≡ b
 one_stop a b e = cc
@@ -272,9 +273,9 @@ after_whole law is_calm task words s inputs blocks end answer before after n thr
     ends_whole task words inputs.told blocks answer before after law end n through.fed through.recorded whole late in (
       record {
         judged = were_said is_calm task words inputs s through.says n
-            (apart task words inputs.told blocks answer before after n 2 late.known (lit< tt) (lit< tt));
+            (apart n 2 late.known (lit< tt) (lit< tt));
         read = was_read is_calm task words inputs s through.says (end ≡ feed.ReadFault) n through.read
-            (λ e. absurd (apart task words inputs.told blocks answer before after n 6 late.known (lit< tt) (lit< tt) e))
+            (λ e. absurd (apart n 6 late.known (lit< tt) (lit< tt) e))
             (λ e. absurd (not_fault end whole e));
         ends = ends.0;
       },
