@@ -35,10 +35,7 @@ use Rattle.psr_part.specs.Causes.{PartSeen, IsOutcome, IsQuiet, Answers, EachIsA
 use Rattle.psr_part.proofs.Moved.{says_any, needed_told}
 use Rattle.psr_part.proofs.Statuses.{from_each, left, sealed_by_run}
 
--- the bytes of all names are told
-holds_all : (told : Told) (names files : List (List ℕ)) → AreTold told names files → HoldsAll told names
-holds_all told names files are k below = subst IsSome (sym (are.each k below)) refl
-
+-- the file of CHECK is held
 holds_named : (is_new : Bool) (word bytes : List ℕ) (told : Told) →
     (if is_new then Some (check_line 0 0) else told.bytes_under word) ≡ Some bytes →
     HoldsAll told (if is_new then [] else word ∷ [])
@@ -129,7 +126,7 @@ module _ (words : List (List ℕ)) (is_calm : Type 0) (seen : PartSeen) (o : IsO
   not_six : IsQuiet is_calm seen → n ≡ 6 → ⊥
   not_six (inl is) e =
       o.run.read.serves (is, holds_check seen.inputs.told words bytes named) s says
-      (holds_all seen.inputs.told s.names files are) e
+      (λ k below. rw (are.each k below) refl) e
   not_six (inr still) e = still (o.run.read.failed e)
 
   -- ---- where a part goes on from this checkpoint
@@ -141,17 +138,12 @@ module _ (words : List (List ℕ)) (is_calm : Type 0) (seen : PartSeen) (o : IsO
 
     -- all data were read, with so few pulses
     pub searched_at : (n ≡ 0) ⊎ (n ≡ 10) → IsSearched words from s w
-    searched_at (inl e) =
-        subst (λ c. IsSearched words c s w) (same_from (o.accepted (0, lit< tt, sym e)))
-        (o.written.text e s files says are).0
-    searched_at (inr e) =
-        subst (λ c. IsSearched words c s w) (same_from (o.accepted (6, lit< tt, sym e)))
-        (o.written.front e s files says are).0
+    searched_at (inl e) = rw (same_from (o.accepted (0, lit< tt, sym e))) at (o.written.text e s files says are).0
+    searched_at (inr e) = rw (same_from (o.accepted (6, lit< tt, sym e))) at (o.written.front e s files says are).0
 
     -- and with too many
     pub crowded_at : n ≡ 9 → IsCrowded words from s w
-    crowded_at e =
-        subst (λ c. IsCrowded words c s w) (same_from (o.accepted (5, lit< tt, sym e))) (o.too_many e s files says are)
+    crowded_at e = rw (same_from (o.accepted (5, lit< tt, sym e))) at (o.too_many e s files says are)
 
     -- the place is behind all of them
     behind_by : (refusal : CheckpointRefusal) → IsRefused words o.from seen.inputs.told seen.ran.blocks refusal →
@@ -221,17 +213,14 @@ module _ (words : List (List ℕ)) (is_calm : Type 0) (seen : PartSeen) (o : IsO
 
       header : AcceptedIsNotRefused → TextsAreAnswered is_calm → FirstsAreAnswered is_calm → (file : ℕ)
           (cause : HeaderCause) → RefusesFirstHeader w file cause → Answers n 3
-      header not_refused texts firsts file cause refuses = by_cause cause refuses
-        where
-          other : n ≢ 13
-          other e = not_refused.header w file cause (behind_at e).begins.accepted refuses
-
-          by_cause : (why : HeaderCause) → RefusesFirstHeader w file why → Answers n 3
-          by_cause (Text fault) r =
-              answers n (Header file (Text fault)) (of_run _ texts other s files file fault says needed r)
-          by_cause (Fields fault) r =
-              answers n (Header file (Fields fault))
-              (of_run _ firsts other s files (Header file (Fields fault)) says needed r)
+      header not_refused texts firsts file (Text fault) refuses =
+          answers n (Header file (Text fault))
+          (of_run _ texts (λ e. not_refused.header w file (Text fault) (behind_at e).begins.accepted refuses) s files
+          file fault says needed refuses)
+      header not_refused texts firsts file (Fields fault) refuses =
+          answers n (Header file (Fields fault))
+          (of_run _ firsts (λ e. not_refused.header w file (Fields fault) (behind_at e).begins.accepted refuses) s
+          files (Header file (Fields fault)) says needed refuses)
 
       plan : AcceptedIsNotRefused → FirstsAreAnswered is_calm → (cause : PlanCause) → RefusesSearch s.search w cause →
           Answers n 4

@@ -144,22 +144,19 @@ module _ (words : List (List ℕ)) (inputs : InputsSeen) (is_calm : Type 0) wher
       Ends words inputs is_calm out out (Some stop) None
   at_checkpoint before own s until same says check.Failed failed held quiet judged late stop is out =
       let lone = part_search words no_checkpoint in
-      subst (λ (x : PartStop). Ends words inputs is_calm out out (Some x) None) (sym is)
-      (at_stop no_checkpoint None ReadFault out out
+      rw is (at_stop no_checkpoint None ReadFault out out
       (before 13 lone words s inputs ReadFault (says no_checkpoint)
       (record { kind = tt; says = tt }) (failed refl))
       (λ later. absurd (not_later 6 refl later)) (λ calm check six. absurd (held refl calm check)) refl)
   at_checkpoint before own s until same says check.Form failed held quiet judged late stop is out =
       let lone = part_search words no_checkpoint in
-      subst (λ (x : PartStop). Ends words inputs is_calm out out (Some x) None) (sym is)
-      (at_refusal no_checkpoint None Form out out
+      rw is (at_refusal no_checkpoint None Form out out
       (own 13 lone words s inputs (omega arith) (says no_checkpoint) (quiet (λ e. absurd cc)))
       (refl, (λ text told. (judged (λ e. absurd cc) text told).form.0 refl)) refl)
   at_checkpoint before own s until same says (check.Place place limit) failed held quiet judged late stop is out =
       let lone = part_search words no_checkpoint in
       let other : check.Place place limit ≢ check.Failed = λ e. absurd cc in
-      subst (λ (x : PartStop). Ends words inputs is_calm out out (Some x) None) (sym is)
-      (at_refusal no_checkpoint None (Place place limit) out out
+      rw is (at_refusal no_checkpoint None (Place place limit) out out
       (own 13 lone words s inputs (omega arith) (says no_checkpoint) (quiet other)) (
         refl,
         sym (late place limit refl).0 ∙ same,
@@ -188,13 +185,13 @@ module _ (words : List (List ℕ)) (inputs : InputsSeen) (is_calm : Type 0) wher
           ((w : FileStream) → CanBegin (searching words from) s0 w → walk_stop w ≡ walk.Whole →
           Q (first_observation w 0) (transfer_data w 0) → P s0 w) → ForPart words from inputs.told P
       of_data n at Q q P holds s files says =
-          subst (λ (t : SettingsSeen). (files : List (List ℕ)) → AreTold inputs.told t.names files →
-          P t (stream_for t files)) (once (searching words from) words s0 s through.says says) (λ files are.
+          let Holds : SettingsSeen → Type 0 = λ t. (files : List (List ℕ)) → AreTold inputs.told t.names files →
+          P t (stream_for t files) in
+          subst Holds (once (searching words from) words s0 s through.says says) (λ files are.
           let w = stream_for s0 files in
           let k = known files are in
           let b = (late n at).1 s0 files through.says are in
-          holds w b.0 b.1
-          (subst (λ b. Q (first_observation w 0) b) k.1 (subst (λ x. Q x bytes) k.0 q))) files
+          holds w b.0 b.1 (subst (Q (first_observation w 0)) k.1 (subst (λ x. Q x bytes) k.0 q))) files
 
       text_of : (n : ℕ) → Contains late_statuses n → (P : List ℕ → Type 0) →
           FitsPart o s0.search from (until_in words) bytes → P (text_of_part o s0.search from (until_in words) bytes) →
@@ -226,10 +223,10 @@ module _ (words : List (List ℕ)) (inputs : InputsSeen) (is_calm : Type 0) wher
       }
 
       -- the whole text, or its front, or no text
-      done : (before after : SinkSeen) → FitsPart o s0.search from (until_in words) bytes →
-          WroteAll (text_of_part o s0.search from (until_in words) bytes) before after →
-          Ends words inputs is_calm before after None (Some blocks)
-      done before after fits wrote =
+      at_text : (before after : SinkSeen) (stop : Option PartStop) →
+          EndsText o s0.search from (until_in words) bytes before after stop →
+          Ends words inputs is_calm before after stop (Some blocks)
+      at_text before after None (fits, wrote) =
           let at : Contains late_statuses 0 = (0, lit< tt, refl) in
           late_ends before after None at (record {
             text = λ e. text_of 0 at (λ text. WroteAll text before after) fits wrote;
@@ -238,11 +235,7 @@ module _ (words : List (List ℕ)) (inputs : InputsSeen) (is_calm : Type 0) wher
             quiet = λ e. wrote.faults;
             untouched = λ e. absurd (e refl);
           }) (λ e. absurd (omega (arith, e))) tt
-
-      broken_off : (before after : SinkSeen) → FitsPart o s0.search from (until_in words) bytes →
-          WroteFront (text_of_part o s0.search from (until_in words) bytes) before after →
-          Ends words inputs is_calm before after (Some (Run SinkFault)) (Some blocks)
-      broken_off before after fits wrote =
+      at_text before after (Some (Run SinkFault)) (fits, wrote) =
           let at : Contains late_statuses 10 = (2, lit< tt, refl) in
           late_ends before after (Some (Run SinkFault)) at (record {
             text = λ e. absurd (omega (arith, e));
@@ -251,12 +244,7 @@ module _ (words : List (List ℕ)) (inputs : InputsSeen) (is_calm : Type 0) wher
             quiet = λ e. absurd (e refl);
             untouched = λ e f. absurd (f refl);
           }) (λ e. absurd (omega (arith, e))) (tt, tt)
-
-      crowded : (before after : SinkSeen) (count limit : ℕ) → from.place ≤ spectra_of o bytes →
-          count_of o s0.search from (until_in words) bytes ≡ count → limit ≡ s0.search.max_candidates →
-          limit < count → after ≡ before →
-          Ends words inputs is_calm before after (Some (Run (TooMany count limit))) (Some blocks)
-      crowded before after count limit within total most many same =
+      at_text before after (Some (Run (TooMany count limit))) (within, total, most, many, same) =
           let at : Contains late_statuses 9 = (1, lit< tt, refl) in
           let more : s0.search.max_candidates < count_of o s0.search from (until_in words) bytes =
           omega (arith, total, most, many) in
@@ -274,11 +262,7 @@ module _ (words : List (List ℕ)) (inputs : InputsSeen) (is_calm : Type 0) wher
                 (λ s w. FindsAlone (part_search words from) s w (IsTooMany s count limit))
                 (λ w begins ends q. record { begins = begins; whole = ends; total = q }),
           )
-
-      behind : (before after : SinkSeen) (place spectra : ℕ) → place ≡ from.place → spectra ≡ spectra_of o bytes →
-          spectra < place → after ≡ before →
-          Ends words inputs is_calm before after (Some (Refused (Beyond place spectra))) (Some blocks)
-      behind before after place spectra at_place has less same =
+      at_text before after (Some (Refused (Beyond place spectra))) (at_place, has, less, same) =
           let at : Contains late_statuses 13 = (3, lit< tt, refl) in
           at_refusal from (Some blocks) (Beyond place spectra) before after (late 13 at).0 (
             refl,
@@ -289,16 +273,6 @@ module _ (words : List (List ℕ)) (inputs : InputsSeen) (is_calm : Type 0) wher
                 (λ s w. FindsAlone (part_search words from) s w (λ total. spectra ≡ spectra_in w))
                 (λ w begins ends q. record { begins = begins; whole = ends; total = q }),
           ) same
-
-      at_text : (before after : SinkSeen) (stop : Option PartStop) →
-          EndsText o s0.search from (until_in words) bytes before after stop →
-          Ends words inputs is_calm before after stop (Some blocks)
-      at_text before after None (fits, wrote) = done before after fits wrote
-      at_text before after (Some (Run SinkFault)) (fits, wrote) = broken_off before after fits wrote
-      at_text before after (Some (Run (TooMany count limit))) (within, total, most, many, same) =
-          crowded before after count limit within total most many same
-      at_text before after (Some (Refused (Beyond place spectra))) (at, has, less, same) =
-          behind before after place spectra at has less same
       at_text before after stop e = absurd e
 
     -- all data were sealed where the feeder has no stop
@@ -322,15 +296,12 @@ module _ (words : List (List ℕ)) (inputs : InputsSeen) (is_calm : Type 0) wher
         stop_of_feed end ≡ fed → Ends words inputs is_calm before after stop (Some blocks)
     after_session stops wholes before after stop stopped found (Some fed) is =
         let e = stops 13 (part_search words from) words s0 inputs blocks end fed through is in
-        let two = subst (λ (x : Option Stop). IfSome x (λ f. (stop ≡ Some (Run f)) × (after ≡ before))) is stopped in
-        subst (λ (x : Option PartStop). Ends words inputs is_calm before after x (Some blocks)) (sym two.0)
-        (at_stop from (Some blocks) fed before after e (λ later. goes) (λ calm check six. goes) two.1)
+        let two = rw is at stopped in
+        rw two.0 (at_stop from (Some blocks) fed before after e (λ later. goes) (λ calm check six. goes) two.1)
     after_session stops wholes before after stop stopped found None is =
         let w = whole_is end is in
         let f = found w.0 w.1 in
-        at_text wholes is f.observation f.bytes f.known before after stop
-        (subst (λ (x : Option Stop). EndsFed x f.observation s0.search from (until_in words) f.bytes before after stop)
-        is f.ended)
+        at_text wholes is f.observation f.bytes f.known before after stop (rw is at f.ended)
 
 -- ---- with the notes
 
@@ -342,15 +313,14 @@ pub outcome : (words : List (List ℕ)) (inputs : InputsSeen) (is_calm : Type 0)
     Outcome words inputs is_calm out_before out_after notes_before notes_after
     (record { status = status; blocks = blocks; recorded = None })
 outcome words inputs is_calm out_before out_after notes_before notes_after stop blocks status e is noted =
-    record {
+    rw is (record {
       from = e.from;
-      accepted = λ later. e.accepted (subst (λ n. Contains later_statuses n) is later);
-      held = λ calm check six. e.held calm check (sym is ∙ six);
-      known = subst (λ n. Contains statuses n) (sym is) e.known;
-      written = subst (λ n. WritesPart words e.from inputs.told out_before out_after n) (sym is) e.written;
-      run = subst (λ n. RunsAlone 13 (part_search words e.from) words inputs
-          (is_calm × HoldsAll inputs.told (check_names words)) blocks n) (sym is) e.run;
-      too_many = λ nine. e.too_many (sym is ∙ nine);
+      accepted = e.accepted;
+      held = e.held;
+      known = e.known;
+      written = e.written;
+      run = e.run;
+      too_many = e.too_many;
       unrecorded = refl;
-      noted = noted e.from e.said;
-    }
+      noted = rw is at (noted e.from e.said);
+    })

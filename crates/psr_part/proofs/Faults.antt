@@ -1,9 +1,8 @@
 -- What a fault of the inputs leaves.
-use Rattle.std.proofs.Common.{◌≡◌, ◌≢◌, ℕ, List, Bool, true, false, Some, None, Err, inl, refl, sym, ap, ◌∙◌, subst}
-use Rattle.std.specs.Prelude.{Option, IsSome, Result, if◌then◌else◌}
+use Rattle.std.proofs.Common.{◌≡◌, ◌≢◌, ℕ, List, Bool, true, false, Some, None, Err, inl, refl, ap, ◌∙◌}
+use Rattle.std.specs.Prelude.{IsSome, Result, if◌then◌else◌}
 use Rattle.std.specs.Str.{bytes_eq}
 use Rattle.psr_base.specs.Told.{Told, OfFile, BreaksOff}
-use Rattle.ring_ends.specs.declared.finished.Finished.{Finished}
 use Rattle.search_model.specs.Parts.{check_line}
 use Rattle.search_words.specs.declared.fault.WordFault.{WordFault}
 use Rattle.search_words.specs.declared.fault.WordFault.TheVariants as word
@@ -26,22 +25,19 @@ use Rattle.psr_part.specs.Outcome.{LeavesAtFault}
 -- words that are refused are no fault of the inputs
 pub not_words : (f : WordFault) (stop : Stop) → stop ≡ stop_of_words f → Some (Run stop) ≡ Some (Run ReadFault) → ⊥
 not_words word.Refused stop of same = absurd cc
-not_words (word.OutOfRange opt) stop of same = absurd cc
-not_words word.Memory stop of same = absurd cc
+not_words fault stop of same = absurd cc
 
 -- nor is a checkpoint that is not read want of memory
 pub not_memory : (f : CheckpointFault) (stop : PartStop) → stop ≡ stop_of_checkpoint f →
     Some stop ≡ Some (Run Memory) → ⊥
 not_memory check.Failed stop of same = absurd cc
-not_memory check.Form stop of same = absurd cc
-not_memory (check.Place place until) stop of same = absurd cc
+not_memory fault stop of same = absurd cc
 
 -- CHECK was not read
 failed_is : (f : CheckpointFault) (stop : PartStop) → stop ≡ stop_of_checkpoint f → Some stop ≡ Some (Run ReadFault) →
     f ≡ check.Failed
 failed_is check.Failed stop of same = refl
-failed_is check.Form stop of same = absurd cc
-failed_is (check.Place place until) stop of same = absurd cc
+failed_is fault stop of same = absurd cc
 
 abbrev pub as_result : CheckpointFault → Result Checkpoint CheckpointFault
 as_result f = Err f
@@ -59,14 +55,13 @@ pub at_check : (words : List (List ℕ)) (is_calm : Type 0) (word : List ℕ) (o
     stop ≡ stop_of_checkpoint f → Some stop ≡ Some (Run ReadFault) → LeavesAtFault words is_calm old new None
 at_check words is_calm word old new f stop is not_new broke serves of same =
     let failed : as_result f ≡ Err check.Failed = ap as_result (failed_is f stop of same) in
-    let At : List ℕ → Type 0 = λ x. OfFile old x (λ _. BreaksOff most_read x old new) in
     inl (
       refl,
       record {
         other = λ e. not_new (is ∙ e) failed;
-        broke = subst At is (broke failed);
+        broke = rw is at (broke failed);
         missing = λ calm there.
-            let told = subst (λ (x : List ℕ). IsSome (old.bytes_under x)) (sym is) there in
+            let told : IsSome (old.bytes_under word) = rw is there in
             serves calm (named_there (bytes_eq word new_word) word old told) failed;
       },
     )
@@ -74,13 +69,4 @@ at_check words is_calm word old new f stop is not_new broke serves of same =
 -- a search that had no session fails reading at this stop
 pub fails : {F : Type 0} (x : LoneStop F) (stop : Stop) → x ≡ lone.Run stop → Some (Run stop) ≡ Some (Run ReadFault) →
     FailsReading (Err x)
-fails {F} x stop is same =
-    let Fails : LoneStop F → Type 0 = λ y. FailsReading (Err y) in
-    let e : stop ≡ ReadFault = cc in
-    subst Fails (sym (is ∙ ap lone.Run e)) refl
-
--- it stands on what went through the data ring
-pub with_them : (words : List (List ℕ)) (is_calm : Type 0) (old new : Told) (blocks all : Option Finished) →
-    all ≡ blocks → LeavesAtFault words is_calm old new blocks → LeavesAtFault words is_calm old new all
-with_them words is_calm old new blocks all is =
-    subst (λ (x : Option Finished). LeavesAtFault words is_calm old new x) (sym is)
+fails x stop is same = let e : stop ≡ ReadFault = cc in rw (is, e) refl

@@ -65,7 +65,7 @@ module _ (law : TextsSayOne) (back : LinesAreReadBack) (join : PartTextsJoin) (p
       (accepted.text (check_line at.place at.pulses) check) (back.line at said)
 
   before : at.place < cut
-  before = subst (λ (c : Checkpoint). c.place < cut) went_on accepted.before
+  before = rw went_on at accepted.before
 
   searched : HasText words ended.outcome.from
       (λ text. WroteAll text seen.out_before seen.out_after) s w
@@ -75,9 +75,7 @@ module _ (law : TextsSayOne) (back : LinesAreReadBack) (join : PartTextsJoin) (p
   wrote = subst (λ c. WroteAll (text_in_part words c s w) seen.out_before seen.out_after) went_on searched.1
 
   few : length (within_part at.place cut (candidates_of o s.search bytes)) ≤ s.search.max_candidates
-  few =
-      subst (λ (c : Checkpoint). length (within_part c.place cut (candidates_of o s.search bytes))
-      ≤ s.search.max_candidates) went_on searched.0.finds.total
+  few = rw went_on at searched.0.finds.total
 
   -- nothing is folded
   unfolded : s.search.fold_max < s.search.fold_min

@@ -1,6 +1,6 @@
 -- What is said of files that are told, once CHECK was read.
-use Rattle.std.proofs.Common.{◌≡◌, ℕ, ◌+◌, ◌<◌, List, [], ◌∷◌, length, Bool, true, false, Option, Some, None, refl, sym, ap, ◌∙◌, subst, arith, lit<}
-use Rattle.std.specs.Prelude.{IsSome, slice_index_or, if◌then◌else◌}
+use Rattle.std.proofs.Common.{◌≡◌, ℕ, ◌+◌, ◌<◌, List, [], ◌∷◌, length, Bool, true, false, Option, Some, None, refl, ◌∙◌, subst, arith, lit<}
+use Rattle.std.specs.Prelude.{IsSome, if◌then◌else◌}
 use Rattle.std.specs.Str.{bytes_eq}
 use Rattle.psr_base.specs.Count.{Rose}
 use Rattle.psr_base.specs.Inputs.{HasReadFrom}
@@ -26,7 +26,7 @@ use Rattle.run_outcome.specs.Firsts.{first_name, EachFirst, RefusesFieldsAt, Ref
 use Rattle.run_outcome.specs.Runs.{Task, Alone, ForFilesAt, ForFirsts, ForFilesTo, JudgesFirsts, BeginsByFirsts, MayBegin, CanBegin, RefusesSearch, RefusesSearchAt, RefusesToRecord, RefusesRecordingAt}
 use Rattle.run_outcome.specs.Outcomes.{LeavesAtFault}
 use Rattle.run_outcome.specs.Ends.{CountsFaults, StopsBefore, SaysBefore, IsRunFed}
-use Rattle.search_opening.specs.Settings.{OfRun, OfRunAt, OfRunFirsts}
+use Rattle.search_opening.specs.Settings.{OfRun, OfRunFirsts}
 use Rattle.psr_part.specs.Part.{check_word, check_names, check_text_of, part_search}
 
 -- the words say the same settings whatever the checkpoint is
@@ -40,7 +40,7 @@ still_told : (old new : Told) (names files : List (List ℕ)) → new.bytes_unde
 still_told old new names files same are = record {
   count = are.count;
   each = λ k below.
-      ap (λ (under : List ℕ → Option (List ℕ)). under (slice_index_or names k [])) same ∙ are.each k below;
+      rw same (are.each k below);
 }
 
 -- those that are needed are told where all are
@@ -54,21 +54,17 @@ needed_still_told : (Needed : ℕ → Type 0) (old new : Told) (names files : Li
 needed_still_told Needed old new names files same are = record {
   count = are.count;
   each = λ k below needed.
-      ap (λ (under : List ℕ → Option (List ℕ)). under (slice_index_or names k [])) same ∙ are.each k below needed;
+      rw same (are.each k below needed);
 }
 
 pub of_run : (s : SettingsSeen) (old new : Told) (P : FileStream → Type 0) → new.bytes_under ≡ old.bytes_under →
     OfRun new s P → OfRun old s P
 of_run s old new P same holds files are = holds files (still_told old new s.names files same are)
 
-of_run_at : (Needed : ℕ → Type 0) (s : SettingsSeen) (old new : Told) (P : FileStream → Type 0) →
-    new.bytes_under ≡ old.bytes_under → OfRunAt Needed new s P → OfRunAt Needed old s P
-of_run_at Needed s old new P same holds files are =
-    holds files (needed_still_told Needed old new s.names files same are)
-
 pub of_run_firsts : (s : SettingsSeen) (old new : Told) (P : FileStream → Type 0) →
     new.bytes_under ≡ old.bytes_under → OfRunFirsts new s P → OfRunFirsts old s P
-of_run_firsts s = of_run_at (IsFirstFile s.starts (length s.names)) s
+of_run_firsts s old new P same holds files are =
+    holds files (needed_still_told (IsFirstFile s.starts (length s.names)) old new s.names files same are)
 
 module _ (lone : LoneSearch) (words : List (List ℕ)) (old new : Told) (same : new.bytes_under ≡ old.bytes_under) where
   abbrev task : Task
@@ -87,8 +83,7 @@ module _ (lone : LoneSearch) (words : List (List ℕ)) (old new : Told) (same : 
   for_files_to opened = for_files_at (λ s k. k < opened)
 
   of_file : (name : List ℕ) {P : List ℕ → Type 0} → OfFile new name P → OfFile old name P
-  of_file name says bytes is =
-      says bytes (ap (λ (under : List ℕ → Option (List ℕ)). under name) same ∙ is)
+  of_file name says bytes is = says bytes (rw same is)
 
   each_first : (names : List (List ℕ)) (starts : List ℕ) (count : ℕ) {P : List ℕ → Type 0} →
       EachFirst new names starts count P → EachFirst old names starts count P
@@ -197,7 +192,7 @@ where_calm task words first next before after (Some blocks) calm is = record {
 hold_still : (old new : Told) (names : List (List ℕ)) → new.bytes_under ≡ old.bytes_under → HoldsAll old names →
     HoldsAll new names
 hold_still old new names same holds k below =
-    subst (λ (under : List ℕ → Option (List ℕ)). IsSome (under (slice_index_or names k []))) (sym same) (holds k below)
+    rw same (holds k below)
 
 -- ---- faults, where CHECK was read without one
 

@@ -1,5 +1,5 @@
 -- A run of the search of a part: CHECK is read, and then the search is driven.
-use Rattle.std.proofs.Common.{◌≡◌, ◌≢◌, ℕ, ◌<◌, ◌≤◌, List, Option, Some, None, Result, Ok, Err, refl, sym, ap, ◌∙◌, subst}
+use Rattle.std.proofs.Common.{◌≡◌, ◌≢◌, ℕ, ◌<◌, ◌≤◌, List, Option, Some, None, Result, Ok, Err, refl, sym, ap, ◌∙◌}
 use Rattle.std.specs.Prelude.{IsSome, IfSome}
 use Rattle.std.specs.Option.{ForSome}
 use Rattle.dada_model.specs.Observation.{Observation}
@@ -7,12 +7,11 @@ use Rattle.psr_base.specs.Inputs.{HasReadFrom}
 use Rattle.psr_base.specs.Told.{Told, InputsSeen, OfFile}
 use Rattle.psr_base.specs.Written.{SinkSeen}
 use Rattle.search_words.specs.Settings.{SettingsSeen, AllInRange}
-use Rattle.ring_ends.specs.declared.finished.Finished.{Finished}
 use Rattle.stream_model.specs.Walk.{transfer_data}
 use Rattle.disk_feeder.specs.declared.answers.FeedEnd.TheVariants as feed
 use Rattle.disk_feeder.specs.Filling.{HoldsAll}
 use Rattle.search_engine.specs.Scope.{Scope}
-use Rattle.search_engine.specs.Engine.{EngineState, HasFoundIn}
+use Rattle.search_engine.specs.Engine.{EngineState}
 use Rattle.warm_restart.specs.declared.checkpoint.Checkpoint.{Checkpoint}
 use Rattle.warm_restart.specs.declared.checkpoint.CheckpointFault.{CheckpointFault}
 use Rattle.warm_restart.specs.declared.checkpoint.CheckpointFault.TheVariants as check
@@ -44,16 +43,14 @@ use Rattle.psr_part.specs.Part.{until_in, check_word, check_names, GoesOnFrom, p
 use Rattle.psr_part.specs.Outcome.{ReadsCheck, AfterCheck}
 use Rattle.psr_part.specs.Ends.{EndsFed, Ends}
 use Rattle.psr_part.proofs.Moved.{needed_told, of_run, of_run_firsts, stops_before, is_run_fed, counts_through, counts_failed, counts_none, check_held}
+use Rattle.psr_part.proofs.Faults.{as_result}
 use Rattle.psr_part.proofs.Endings.{at_stop, at_checkpoint, after_session}
 
 abbrev fails_so : {F : Type 0} → LoneStop F → Result LoneFound (LoneStop F)
 fails_so stop = Err stop
 
-abbrev fails : CheckpointFault → Result Checkpoint CheckpointFault
-fails f = Err f
-
 -- a checkpoint that was read is no fault
-pub never : (from : Checkpoint) → Ok from ≡ fails check.Failed → ⊥
+pub never : (from : Checkpoint) → Ok from ≡ as_result check.Failed → ⊥
 never from e = cc
 
 -- an accepted checkpoint is the one that CHECK says
@@ -63,9 +60,8 @@ pub goes_on : (told : Told) (words : List (List ℕ)) (word : List ℕ) (until :
     GoesOnFrom told words from
 goes_on told words word until from is same before judged = record {
   text = λ text named.
-      (((judged (λ e. absurd cc) text
-      (subst (λ (x : List ℕ). named_text told x ≡ Some text) (sym is) named)).accepted from).0 refl).0;
-  before = subst (λ (n : ℕ). from.place < n) same before;
+      (((judged (λ e. absurd cc) text (rw is named)).accepted from).0 refl).0;
+  before = rw same at before;
 }
 
 -- CHECK was read
@@ -74,24 +70,22 @@ reads_check : {I : Type 0} (told : I → Told) (words : List (List ℕ)) (word :
     (word ≢ new_word → OfFile (told old) word (λ file. ReadsFront most_read word file (told old) (told new))) →
     (told new).bytes_under ≡ (told old).bytes_under → ReadsCheck words (told old) (told new)
 reads_check told words word old new is none front names =
-    subst (λ (x : List ℕ). (x ≡ new_word → told new ≡ told old)
-    × (x ≢ new_word → OfFile (told old) x (λ file. ReadsFront most_read x file (told old) (told new)))
-    → ReadsCheck words (told old) (told new)) (sym is)
-    (λ both. record { new = both.0; named = both.1; names = names })
-    ((λ e. ap told (none e)), front)
+    record {
+      new = λ e. ap told (none (is ∙ e));
+      named = λ other. rw is at (front (λ e. other (sym is ∙ e)));
+      names = names;
+    }
 
 -- and accepted, which says more of what follows
-pub after_check : {I : Type 0} (told : I → Told) (words : List (List ℕ)) (word : List ℕ) (until : ℕ)
-    (from : Checkpoint) (old new : I) → word ≡ check_word words → until ≡ until_in words → from.place < until →
-    (Ok from ≢ Err check.Failed → ForSome (named_text (told old) word) (λ text. IsJudged text until (Ok from))) →
-    (word ≡ new_word → new ≡ old) →
+pub after_check : {I : Type 0} (told : I → Told) (words : List (List ℕ)) (word : List ℕ) (from : Checkpoint)
+    (old new : I) → word ≡ check_word words → GoesOnFrom (told old) words from → (word ≡ new_word → new ≡ old) →
     (word ≢ new_word → Ok from ≢ Err check.Failed →
     OfFile (told old) word (λ file. ReadsFront most_read word file (told old) (told new))) →
     (told new).bytes_under ≡ (told old).bytes_under → (P : Checkpoint → Told → Type 0) → P from (told new) →
     AfterCheck words (told old) P
-after_check told words word until from old new is same before judged none front names P holds = record {
+after_check told words word from old new is goes none front names P holds = record {
   from = from;
-  accepted = goes_on (told old) words word until from is same before judged;
+  accepted = goes;
   told = told new;
   read = reads_check told words word old new is none (λ other. front other (λ e. absurd cc)) names;
   holds = holds;
@@ -101,7 +95,7 @@ after_check told words word until from old new is same before judged none front 
 pub scope_is : (o : Observation) (s : Search) (scope : Scope) (p u place until : ℕ) → scope ≡ part_scope o s p u →
     p ≡ place → u ≡ until → scope ≡ part_scope o s place until
 scope_is o s scope p u place until is a b =
-    is ∙ (ap (λ (n : ℕ). part_scope o s n u) a ∙ ap (λ (n : ℕ). part_scope o s place n) b)
+    is ∙ rw (a, b)
 
 -- the engine has searched the part
 pub searched_part : (s : SettingsSeen) (told : Told) (found : LoneFound) (scope : Scope) (from : Checkpoint)
@@ -115,7 +109,7 @@ searched_part s told found scope from until range unfolded part is all = record 
   search = all.search_is;
   shard = all.shard_is;
   scope = all.scope_is ∙ is;
-  found = subst (λ (x : Scope). HasFoundIn found.observation x all.bytes found.engine) is all.searched;
+  found = rw is at all.searched;
 }
 
 -- what was searched, and that it is the part in all data of the files
@@ -144,23 +138,16 @@ is_memory x stop is same = let e : stop ≡ Memory = cc in is ∙ ap lone.Run e
 pub check_read : {I : Type 0} (told : I → Told) (words : List (List ℕ)) (word : List ℕ) (old new : I)
     (fault : CheckpointFault) (stop : PartStop) (refusal : CheckpointRefusal) → word ≡ check_word words →
     (word ≡ new_word → new ≡ old) →
-    (word ≢ new_word → fails fault ≢ fails check.Failed →
+    (word ≢ new_word → as_result fault ≢ as_result check.Failed →
     OfFile (told old) word (λ file. ReadsFront most_read word file (told old) (told new))) →
     (told new).bytes_under ≡ (told old).bytes_under → stop ≡ stop_of_checkpoint fault →
     Some stop ≡ Some (Refused refusal) → ReadsCheck words (told old) (told new)
 check_read told words word old new fault stop refusal is none front names of same =
     reads_check told words word old new is none (λ other. front other (not_failed fault of)) names
   where
-    not_failed : (f : CheckpointFault) → stop ≡ stop_of_checkpoint f → fails f ≢ fails check.Failed
+    not_failed : (f : CheckpointFault) → stop ≡ stop_of_checkpoint f → as_result f ≢ as_result check.Failed
     not_failed check.Failed at e = absurd cc
-    not_failed check.Form at e = absurd cc
-    not_failed (check.Place place until) at e = absurd cc
-
-pub with_blocks : (words : List (List ℕ)) (inputs : InputsSeen) (is_calm : Type 0) (before after : SinkSeen)
-    (stop : Option PartStop) (blocks : Finished) (all : Option Finished) → all ≡ Some blocks →
-    Ends words inputs is_calm before after stop (Some blocks) → Ends words inputs is_calm before after stop all
-with_blocks words inputs is_calm before after stop blocks all is ends =
-    subst (λ (x : Option Finished). Ends words inputs is_calm before after stop x) (sym is) ends
+    not_failed other at e = absurd cc
 
 -- an end speaks of the search that the engine was made for
 pub ends_for : (fed : Option Stop) (o : Observation) (w : Warm) (s : Search) (from : Checkpoint) (until : ℕ)
@@ -168,9 +155,7 @@ pub ends_for : (fed : Option Stop) (o : Observation) (w : Warm) (s : Search) (fr
     EndsFed fed o w.search w.checkpoint w.until bytes before after stop →
     EndsFed fed o s from until bytes before after stop
 ends_for fed o w s from until e bytes before after stop is ended =
-    subst (λ (x : Search). EndsFed fed o x from until bytes before after stop) is.search_is
-    (subst (λ (x : Checkpoint). EndsFed fed o w.search x until bytes before after stop) is.checkpoint_is
-    (subst (λ (x : ℕ). EndsFed fed o w.search w.checkpoint x bytes before after stop) is.until_is ended))
+    rw (is.search_is, is.checkpoint_is, is.until_is) at ended
 
 module _ {I : Type 0} (told : I → Told) (is_calm : I → Type 0) (faults : I → ℕ) (words : List (List ℕ)) (old : I) where
   abbrev seen : I → InputsSeen
@@ -183,27 +168,24 @@ module _ {I : Type 0} (told : I → Told) (is_calm : I → Type 0) (faults : I �
   pub where_refused : (new : I) (s : SettingsSeen) (word : List ℕ) (until : ℕ) → word ≡ check_word words →
       until ≡ until_in words → ((from : Checkpoint) → SayAlone (part_search words from) words s) →
       (fault : CheckpointFault) →
-      (fails fault ≢ fails check.Failed →
-      ForSome (named_text (told old) word) (λ text. IsJudged text until (fails fault))) →
-      ((place limit : ℕ) → fails fault ≡ fails (check.Place place limit) →
+      (as_result fault ≢ as_result check.Failed →
+      ForSome (named_text (told old) word) (λ text. IsJudged text until (as_result fault))) →
+      ((place limit : ℕ) → as_result fault ≡ as_result (check.Place place limit) →
       (until ≡ limit) × (until ≤ place)) →
-      HasReadFrom told is_calm faults (fails fault ≡ fails check.Failed) old new →
-      (is_calm old → IsSome (named_text (told old) word) → fails fault ≢ fails check.Failed) →
+      HasReadFrom told is_calm faults (as_result fault ≡ as_result check.Failed) old new →
+      (is_calm old → IsSome (named_text (told old) word) → as_result fault ≢ as_result check.Failed) →
       AloneBeforeSession Calm → AloneAtOwnStop Calm → (stop : PartStop) → stop ≡ stop_of_checkpoint fault →
       (out : SinkSeen) → Ends words (seen new) (is_calm old) out out (Some stop) None
   where_refused new s word until is same says fault judged late read serves before own stop stopped out =
       at_checkpoint words (seen new) (is_calm old) before own s until same says fault
-      (λ failed. counts_failed told is_calm faults _ old new s.names Calm read (ap fails failed)
-      (λ calm. serves calm.0 (subst (λ (x : List ℕ). IsSome (named_text (told old) x)) (sym is)
-      (check_held (told old) words calm.1)) (ap fails failed)))
-      (λ failed calm held. serves calm (subst (λ (x : List ℕ). IsSome (named_text (told old) x)) (sym is)
-      (check_held (told old) words held)) (ap fails failed))
+      (λ failed. counts_failed told is_calm faults _ old new s.names Calm read (ap as_result failed)
+      (λ calm. serves calm.0 (rw is (check_held (told old) words calm.1)) (ap as_result failed)))
+      (λ failed calm held. serves calm (rw is (check_held (told old) words held)) (ap as_result failed))
       (λ not. counts_none told is_calm faults _ old new s.names Calm read (λ e. not (inner fault check.Failed e)))
-      (λ not. subst (λ (x : List ℕ). ForSome (named_text (told old) x) (λ text. IsJudged text until (fails fault))) is
-      (judged (λ e. not (inner fault check.Failed e))))
-      (λ place limit e. late place limit (ap fails e)) stop stopped out
+      (λ not. rw is at (judged (λ e. not (inner fault check.Failed e))))
+      (λ place limit e. late place limit (ap as_result e)) stop stopped out
     where
-      inner : (a b : CheckpointFault) → fails a ≡ fails b → a ≡ b
+      inner : (a b : CheckpointFault) → as_result a ≡ as_result b → a ≡ b
       inner a b e = cc
 
   -- one was, without a fault
@@ -228,13 +210,8 @@ module _ {I : Type 0} (told : I → Told) (is_calm : I → Type 0) (faults : I �
         (is_calm mid → HoldsAll (told mid) s.names → FailsReading (fails_so x) → ⊥) →
         StopsAlone accepts refuses (part_search words from) words (told mid) x → AloneBeforeSession Calm →
         (out : SinkSeen) → Ends words (seen new) (is_calm old) out out (Some (Run stop)) None
-    where_lone {F} accepts refuses x stop is more serves stops law out =
-        where_stopped stop
-        (subst (λ (y : LoneStop F). HasReadFrom told is_calm faults (FailsReading (fails_so y)) mid new) is more)
-        (subst (λ (y : LoneStop F). is_calm mid → HoldsAll (told mid) s.names → FailsReading (fails_so y) → ⊥) is
-        serves)
-        (subst (λ (y : LoneStop F). StopsAlone accepts refuses (part_search words from) words (told mid) y) is stops).0
-        law out
+    where_lone accepts refuses x stop is more serves stops law out =
+        where_stopped stop (rw is at more) (rw is at serves) (rw is at stops).0 law out
 
     -- or its session went through
     pub where_driven : (found : LoneFound) → HasReadFrom told is_calm faults (found.feed ≡ feed.ReadFault) mid new →
@@ -263,6 +240,5 @@ module _ {I : Type 0} (told : I → Told) (is_calm : I → Type 0) (faults : I �
                 observed files (needed_told (told old) s.names files are)),
             of_run s (told old) (told mid) (λ w. e.0 ≡ transfer_data w 0) first.names e.1 files are,
           );
-          ended = subst (λ (n : ℕ). EndsFed (stop_of_feed found.feed) found.observation s.search from n e.0 before
-              after stop) same e.2;
+          ended = rw same at e.2;
         }) (stop_of_feed found.feed) refl

@@ -1,5 +1,5 @@
 -- The sample, computed.
-use Rattle.std.proofs.Common.{◌≡◌, ℕ, List, [], ◌∷◌, Some, true, refl, ap, subst, sym, ◌∙◌, arith, zero, suc, ◌<◌, slice_index_or, drop, lit<}
+use Rattle.std.proofs.Common.{◌≡◌, ℕ, List, [], ◌∷◌, Some, true, refl, ap, subst, sym, ◌∙◌, arith, drop, lit<}
 use Rattle.std.specs.Prelude.{codes}
 use Rattle.std.specs.Fmt.{digits}
 use Rattle.psr_base.specs.Told.{Told}
@@ -21,7 +21,7 @@ use Rattle.warm_restart.specs.Laws.{TextsSayOne, LinesAreReadBack}
 use Rattle.warm_restart.specs.Warm.{text_of_part}
 use Rattle.run_outcome.specs.Lone.{SayAlone}
 use Rattle.run_outcome.specs.Runs.{stream_for, first_observation}
-use Rattle.psr_part.specs.Part.{until_in, has_form, check_text_of, text_in_part, part_search}
+use Rattle.psr_part.specs.Part.{until_in, has_form, text_in_part, part_search}
 use Rattle.psr_part.specs.Sample.{sample_words, sample_data, sample_file, sample_text, SampleIsFound}
 use Rattle.psr_part.proofs.Causes.{one_said}
 
@@ -59,19 +59,10 @@ says_part from = record {
 }
 
 -- the bytes of the one file are told
-there : (told : Told) → told.bytes_under (codes "pulse.dada") ≡ Some sample_file → (k : ℕ) → k < 1 →
-    told.bytes_under (slice_index_or (codes "pulse.dada" ∷ []) k []) ≡ Some (slice_index_or (sample_file ∷ []) k [])
-there told known zero below = known
-there told known (suc k) below = absurd (omega (arith, below))
-
 are_told : (told : Told) → told.bytes_under (codes "pulse.dada") ≡ Some sample_file →
-    AreTold told (codes "pulse.dada" ∷ []) (sample_file ∷ [])
-are_told told known = record { count = refl; each = there told known }
-
-are_told_of_settings : (told : Told) → told.bytes_under (codes "pulse.dada") ≡ Some sample_file →
     AreTold told settings.names (sample_file ∷ [])
 unfolding settings
-are_told_of_settings told known = are_told told known
+are_told told known = record { count = refl; each = λ k below. let first : k ≡ 0 = omega arith in rw first known }
 
 sample_stream : FileStream
 sample_stream = record { files = sample_file ∷ []; starts = 0 ∷ []; max_bytes = 1099511627776 }
@@ -100,17 +91,13 @@ text_found =
     (transfer_data sample_stream 0)) until_two
     ∙ in_stream
 
--- it begins with the first spectrum
-new_is : (told : Told) → check_text_of told sample_words ≡ Some (check_line 0 0)
-new_is told = refl
-
 pub found : TextsSayOne → LinesAreReadBack → (is_calm : Type 0) → SampleIsFound is_calm
 unfolding first_spectrum
 found law back is_calm seen known outcome zeroth =
-    let are = are_told_of_settings seen.inputs.told known in
+    let are = are_told seen.inputs.told known in
     let first : outcome.from ≡ first_spectrum =
     one_said law (check_line 0 0) outcome.from first_spectrum
-    ((outcome.accepted (0, lit< tt, sym zeroth)).text (check_line 0 0) (new_is seen.inputs.told))
+    ((outcome.accepted (0, lit< tt, sym zeroth)).text (check_line 0 0) refl)
     (back.line first_spectrum (record { place = omega arith; pulses = omega arith })) in
     let wrote = (outcome.written.text zeroth settings (sample_file ∷ []) (says_part outcome.from) are).1 in
     let whole = subst (λ c. WroteAll (text_in_part sample_words c settings (stream_for settings (sample_file ∷ [])))

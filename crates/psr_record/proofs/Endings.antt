@@ -1,5 +1,5 @@
 -- How a recording ends: before all data were sealed, or at their end.
-use Rattle.std.proofs.Common.{◌≡◌, ◌≢◌, ℕ, List, [], ◌∷◌, ◌++◌, refl, sym, ap, ◌∙◌, subst, Some, None, true, Contains, lit<, arith, inl, inr}
+use Rattle.std.proofs.Common.{◌≡◌, ◌≢◌, ℕ, List, [], ◌∷◌, ◌++◌, refl, sym, ap, ◌∙◌, Some, None, true, Contains, lit<, arith, inl, inr}
 use Rattle.std.proofs.lemmas.List.Elements.{Contains-append_left, Contains-append_right}
 use Rattle.std.proofs.lemmas.Bool.{true≢false}
 use Rattle.std.specs.Prelude.{Option, ◌⊎◌}
@@ -20,15 +20,12 @@ use Rattle.run_outcome.specs.Texts.{status_of}
 use Rattle.run_outcome.specs.Conversions.{stop_of_feed, stop_of_recorder}
 use Rattle.run_outcome.specs.Runs.{RecordingAlone, CanBegin}
 use Rattle.run_outcome.specs.Outcomes.{AllCleared, LeavesFiles, TellsNotes}
-use Rattle.run_outcome.specs.Ends.{EndsRun, EndsShort, short_statuses, EndAtStop, EndAfterWhole, RunsThrough, IsLate, end_status}
+use Rattle.run_outcome.specs.Ends.{EndsRun, EndsShort, short_statuses, EndAtStop, EndAfterWhole, IsSaid, RunsThrough, IsLate, end_status}
 use Rattle.psr_record.specs.Outcome.{ForRecord, RecordsData, ClearsBlocks, Outcome}
 use Rattle.psr_record.specs.Ends.{stop_of_session, Ends}
 
 abbrev statuses : List ℕ
 statuses = 0 ∷ 2 ∷ 3 ∷ 4 ∷ 5 ∷ 6 ∷ 7 ∷ 8 ∷ 11 ∷ []
-
-one_list : (a b : Finished) → Some a ≡ Some b → a ≡ b
-one_list a b e = cc
 
 -- the settings of a recording ask for it
 pub records : (words : List (List ℕ)) (s : RunSeen) → SayRecord words s → s.recording ≡ true
@@ -64,7 +61,7 @@ module _ (words : List (List ℕ)) (inputs : InputsSeen) (is_calm : Type 0) (fil
       (through : RunsThrough RecordingAlone words s0 inputs is_calm blocks end recorded files_before files_after)
       (cleared : recorded ≢ Some recorder.FileFault → AllCleared blocks 0 1) where
     clears : ClearsBlocks (Some blocks) recorded
-    clears fine b is = subst (λ (x : Finished). AllCleared x 0 1) (one_list blocks b is) (cleared fine)
+    clears fine b is = let same : b ≡ blocks = cc in rw same (cleared fine)
 
     module _ (law : EndAfterWhole is_calm) (whole : stop_of_feed end ≡ None) where
       late : (n : ℕ) → IsLate recorded n →
@@ -84,46 +81,34 @@ module _ (words : List (List ℕ)) (inputs : InputsSeen) (is_calm : Type 0) (fil
             (record { begins = b.0; whole = b.1 }, (late n at).0.ends.recorded.front e s files says are);
       }
 
-      done : recorded ≢ Some recorder.FileFault →
-          Ends words inputs is_calm files_before files_after None (Some blocks) recorded
-      done none =
-          let at : IsLate recorded 0 = record {
-            known = (0, lit< tt, refl);
-            all = λ e. none;
-            failed = λ e. absurd (omega (arith, e));
-          } in
-          record {
-            known = (0, lit< tt, refl);
-            made = data_at 0 at;
-            run = (late 0 at).0;
-            cleared = clears;
-            said = tt;
-          }
-
-      broken_off : recorded ≡ Some recorder.FileFault →
-          Ends words inputs is_calm files_before files_after (Some FileFault) (Some blocks) recorded
-      broken_off failed =
-          let at : IsLate recorded 11 = record {
-            known = (3, lit< tt, refl);
-            all = λ e. absurd (omega (arith, e));
-            failed = λ e. failed;
-          } in
-          record {
-            known = (8, lit< tt, refl);
-            made = data_at 11 at;
-            run = (late 11 at).0;
-            cleared = clears;
-            said = (tt, tt);
-          }
+      -- what each of their statuses says
+      late_ends : (stop : Option Stop) → IsLate recorded (end_status stop) → Contains statuses (end_status stop) →
+          IsSaid RecordingAlone words inputs.told stop →
+          Ends words inputs is_calm files_before files_after stop (Some blocks) recorded
+      late_ends stop at known said = record {
+        known = known;
+        made = data_at (end_status stop) at;
+        run = (late (end_status stop) at).0;
+        cleared = clears;
+        said = said;
+      }
 
       at_files : (answer : Option RecordEnd) → recorded ≡ answer →
           Ends words inputs is_calm files_before files_after (stop_of_recorder answer) (Some blocks) recorded
-      at_files None is = done (λ fault. absurd cc)
-      at_files (Some recorder.FileFault) is = broken_off is
-      at_files (Some (recorder.Whole n)) is = done (λ fault. absurd cc)
-      at_files (Some (recorder.Cut n)) is = done (λ fault. absurd cc)
-      at_files (Some (recorder.BadHeader fault)) is = done (λ other. absurd cc)
-      at_files (Some (recorder.TooLong limit)) is = done (λ fault. absurd cc)
+      at_files (Some recorder.FileFault) is =
+          let at : IsLate recorded 11 = record {
+            known = (3, lit< tt, refl);
+            all = λ e. absurd (omega (arith, e));
+            failed = λ e. is;
+          } in
+          late_ends (Some FileFault) at (8, lit< tt, refl) (tt, tt)
+      at_files answer is =
+          let at : IsLate recorded 0 = record {
+            known = (0, lit< tt, refl);
+            all = λ e fault. absurd cc;
+            failed = λ e. absurd (omega (arith, e));
+          } in
+          late_ends None at (0, lit< tt, refl) tt
 
     by_feed : EndAtStop is_calm → EndAfterWhole is_calm → (at : Option Stop) → stop_of_feed end ≡ at →
         Ends words inputs is_calm files_before files_after (stop_of_session at recorded) (Some blocks) recorded
@@ -134,9 +119,7 @@ module _ (words : List (List ℕ)) (inputs : InputsSeen) (is_calm : Type 0) (fil
     pub after_session : EndAtStop is_calm → EndAfterWhole is_calm → (stop : Option Stop) →
         stop ≡ stop_of_session (stop_of_feed end) recorded →
         Ends words inputs is_calm files_before files_after stop (Some blocks) recorded
-    after_session stops wholes stop is =
-        subst (λ (x : Option Stop). Ends words inputs is_calm files_before files_after x (Some blocks) recorded)
-        (sym is) (by_feed stops wholes (stop_of_feed end) refl)
+    after_session stops wholes stop is = rw is (by_feed stops wholes (stop_of_feed end) refl)
 
 -- ---- with the notes
 
@@ -148,20 +131,17 @@ pub outcome : (words : List (List ℕ)) (inputs : InputsSeen) (is_calm : Type 0)
     Outcome words inputs is_calm files_before files_after notes_before notes_after
     (record { status = status; blocks = blocks; recorded = recorded })
 outcome words inputs is_calm files_before files_after notes_before notes_after stop blocks recorded status e is noted =
-    let Run : ℕ → Type 0 = λ n. EndsRun RecordingAlone words inputs is_calm blocks recorded files_before files_after n
-    in
-    let run = subst Run (sym is) e.run in
-    record {
-      known = subst (λ n. Contains statuses n) (sym is) e.known;
-      made = subst (λ n. RecordsData words inputs.told files_before files_after n) (sym is) e.made;
-      judged = run.judged;
-      read = run.read;
-      stopped = run.ends.stopped;
-      sealed = run.ends.sealed;
+    rw is (record {
+      known = e.known;
+      made = e.made;
+      judged = e.run.judged;
+      read = e.run.read;
+      stopped = e.run.ends.stopped;
+      sealed = e.run.ends.sealed;
       cleared = e.cleared;
-      recorded = run.ends.recorded;
-      noted = noted;
-    }
+      recorded = e.run.ends.recorded;
+      noted = rw is at noted;
+    })
 
 -- ---- what is left of the files
 
@@ -172,8 +152,8 @@ module _ (words : List (List ℕ)) {F : Type 0} (files_open : F → Type 0) (see
   stand blocks recorded status same = record {
     before_session = λ none. same;
     unrecorded = λ s says not. same;
-    closed = λ quiet shut. subst (λ (files : F). ¬ files_open files) (sym same) shut;
-    shut = λ fine shut. subst (λ (files : F). ¬ files_open files) (sym same) shut;
+    closed = λ quiet shut. rw same shut;
+    shut = λ fine shut. rw same shut;
   }
 
   -- no call on them failed where nothing stopped the session

@@ -1,6 +1,6 @@
 -- From what stands against a search to its status, by the laws of how a run ends.
-use Rattle.std.proofs.Common.{◌≡◌, ◌<◌, ◌⊎◌, ℕ, zero, suc, List, inl, inr, sym, subst, refl, Some, arith}
-use Rattle.std.specs.Prelude.{Option, IsSome}
+use Rattle.std.proofs.Common.{◌≡◌, ◌<◌, ◌⊎◌, ℕ, zero, suc, List, inl, inr, sym, refl, Some, arith}
+use Rattle.std.specs.Prelude.{Option}
 use Rattle.psr_base.specs.Count.{Rose}
 use Rattle.psr_base.specs.Told.{Told}
 use Rattle.ring_ends.specs.declared.finished.Finished.{Finished}
@@ -8,7 +8,6 @@ use Rattle.search_words.specs.Settings.{SettingsSeen, SaySearch}
 use Rattle.stream_model.specs.Walk as walk
 use Rattle.stream_model.specs.Walk.{FileStream, WalkStop, walk_stop}
 use Rattle.disk_feeder.specs.Plan.{AreTold, AreToldAt}
-use Rattle.disk_feeder.specs.Filling.{HoldsAll}
 use Rattle.disk_feeder.specs.Reading.{StopsAtFile}
 use Rattle.disk_feeder.specs.declared.answers.HeaderCause.{HeaderCause}
 use Rattle.disk_feeder.specs.declared.answers.HeaderCause.TheVariants.{Text, Fields}
@@ -22,10 +21,6 @@ use Rattle.run_outcome.specs.Ends.{ForRuns, EndsSo, AcceptedGoesOn, TextsAreAnsw
 use Rattle.psr_search.specs.Outcome.{Outcome, SearchSeen, IsSearched}
 use Rattle.psr_search.specs.Causes.{Answers, CausesAreAnswered, ToldRoomIsEnough}
 use Rattle.psr_search.proofs.Accepted.{left}
-
--- the bytes of all names are told
-holds_all : (told : Told) (names files : List (List ℕ)) → AreTold told names files → HoldsAll told names
-holds_all told names files are k below = subst IsSome (sym (are.each k below)) refl
 
 -- it is the status of this stop, or there was no memory
 answers : (n : ℕ) (stop : Stop) → EndsSo stop n → Answers n (status_of stop)
@@ -55,7 +50,7 @@ module _ (words : List (List ℕ)) (is_calm : Type 0) (seen : SearchSeen)
   n = seen.ran.status
 
   not_six : (is_calm ⊎ (¬ Rose seen.inputs.faults_before seen.inputs.faults_after)) → n ≡ 6 → ⊥
-  not_six (inl is) e = o.read.serves is s says (holds_all seen.inputs.told s.names files are) e
+  not_six (inl is) e = o.read.serves is s says (λ k below. rw (are.each k below) refl) e
   not_six (inr still) e = still (o.read.failed e)
 
   -- those files that a law needs are told, as all are

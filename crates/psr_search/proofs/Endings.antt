@@ -1,5 +1,5 @@
 -- How a search ends: before all data were sealed, or with its text.
-use Rattle.std.proofs.Common.{◌≡◌, ◌≢◌, ℕ, ◌≤◌, ◌<◌, List, [], ◌∷◌, ◌++◌, refl, sym, ap, ◌∙◌, subst, Some, None, true, false, Contains, lit<, arith, inl, inr}
+use Rattle.std.proofs.Common.{◌≡◌, ◌≢◌, ℕ, ◌≤◌, ◌<◌, List, [], ◌∷◌, ◌++◌, refl, sym, ap, subst, Some, None, true, false, Contains, lit<, arith, inl, inr}
 use Rattle.std.proofs.lemmas.List.Elements.{Contains-append_left, Contains-append_right}
 use Rattle.std.specs.Prelude.{Option, IfSome, ◌⊎◌}
 use Rattle.psr_base.specs.Count.{Rose}
@@ -18,20 +18,17 @@ use Rattle.disk_feeder.specs.Plan.{AreTold}
 use Rattle.dada_recorder.specs.declared.answers.RecordEnd.{RecordEnd}
 use Rattle.dada_recorder.specs.declared.answers.RecordEnd.TheVariants as recorder
 use Rattle.run_outcome.specs.declared.stop.Stop.{Stop}
-use Rattle.run_outcome.specs.declared.stop.Stop.TheVariants.{Words, Value, Header, Plan, Recording, Memory, ReadFault, Gap, TooLong, TooMany, SinkFault, FileFault}
+use Rattle.run_outcome.specs.declared.stop.Stop.TheVariants.{TooMany, SinkFault, FileFault}
 use Rattle.run_outcome.specs.Texts.{status_of}
 use Rattle.run_outcome.specs.Conversions.{stop_of_feed}
 use Rattle.run_outcome.specs.Runs.{Searching, stream_for, observed_transfers, CanBegin, HasCandidates}
 use Rattle.run_outcome.specs.Outcomes.{AllCleared, LeavesFiles, TellsNotes}
-use Rattle.run_outcome.specs.Ends.{EndsRun, EndsShort, short_statuses, EndAtStop, EndAfterWhole, RunsThrough, IsLate, WordsSayOnce, end_status}
+use Rattle.run_outcome.specs.Ends.{EndsRun, EndsShort, short_statuses, EndAtStop, EndAfterWhole, IsSaid, RunsThrough, IsLate, WordsSayOnce, end_status}
 use Rattle.psr_search.specs.Outcome.{ForSearch, HasText, WritesText, ClearsBlocks, Outcome}
 use Rattle.psr_search.specs.Ends.{Ends, EndsSearch, EndsFed}
 
 abbrev statuses : List ℕ
 statuses = 0 ∷ 2 ∷ 3 ∷ 4 ∷ 5 ∷ 6 ∷ 7 ∷ 8 ∷ 9 ∷ 10 ∷ 11 ∷ []
-
-one_list : (a b : Finished) → Some a ≡ Some b → a ≡ b
-one_list a b e = cc
 
 -- ---- parts of the outcome
 
@@ -92,14 +89,13 @@ module _ (words : List (List ℕ)) (inputs : InputsSeen) (is_calm : Type 0) (fil
       AllCleared blocks s0.search.shards 1) where
     clears : ClearsBlocks words (Some blocks) recorded
     clears = record {
-      shards = λ b e s says. subst (λ (t : SettingsSeen). AllCleared b 0 t.search.shards)
-          (once Searching words s0 s through.says says)
-          (subst (λ (x : Finished). AllCleared x 0 s0.search.shards) (one_list blocks b e) shards);
+      shards = λ b e s says.
+          let one : b ≡ blocks = cc in
+          let same : s ≡ s0 = sym (once Searching words s0 s through.says says) in rw (one, same) shards;
       recorder = λ fine b e s says.
-          subst (λ (t : SettingsSeen). t.recording ≡ true → AllCleared b t.search.shards 1)
-          (once Searching words s0 s through.says says)
-          (λ on. subst (λ (x : Finished). AllCleared x s0.search.shards 1) (one_list blocks b e)
-          (recorder_cleared on fine));
+          let one : b ≡ blocks = cc in
+          let same : s ≡ s0 = sym (once Searching words s0 s through.says says) in
+          rw (one, same) (λ on. recorder_cleared on fine);
     }
 
     -- ---- with all data
@@ -132,131 +128,79 @@ module _ (words : List (List ℕ)) (inputs : InputsSeen) (is_calm : Type 0) (fil
         subst (λ ts. P (searched_text s0.search ts)) (known files are) p,
       ))
 
+      is_late : (n : ℕ) → Contains (0 ∷ 9 ∷ 10 ∷ 11 ∷ []) n → (n ≡ 0 → recorded ≢ Some recorder.FileFault) →
+          (n ≡ 11 → recorded ≡ Some recorder.FileFault) → IsLate recorded n
+      is_late n known all failed = record { known = known; all = all; failed = failed }
+
+      -- what each of their statuses says
+      late_ends : (before after : SinkSeen) (stop : Option Stop) → IsLate recorded (end_status stop) →
+          Contains statuses (end_status stop) → WritesText words inputs.told before after (end_status stop) →
+          (end_status stop ≡ 9 → ForSearch words inputs.told (λ s w.
+          HasCandidates s w (λ total. s.search.max_candidates < total))) →
+          IsSaid Searching words inputs.told stop →
+          Ends words inputs is_calm files_before files_after before after stop (Some blocks) recorded
+      late_ends before after stop at known written many said = record {
+        known = known;
+        written = written;
+        run = (late (end_status stop) at).0;
+        too_many = many;
+        cleared = clears;
+        said = said;
+      }
+
       -- the whole text, or its front, or no text
-      done : (before after : SinkSeen) → HasFew s0.search transfers →
-          WroteAll (searched_text s0.search transfers) before after → recorded ≢ Some recorder.FileFault →
-          Ends words inputs is_calm files_before files_after before after None (Some blocks) recorded
-      done before after few wrote none =
-          let at : IsLate recorded 0 = record {
-            known = (0, lit< tt, refl);
-            all = λ e. none;
-            failed = λ e. absurd (omega (arith, e));
-          } in
-          record {
-            known = (0, lit< tt, refl);
-            written = record {
-              text = λ e. text_of 0 at (λ text. WroteAll text before after) few wrote;
-              text_too = λ e. absurd (omega (arith, e));
-              front = λ e. absurd (omega (arith, e));
-              failed = λ e. absurd (omega (arith, e));
-              quiet = λ e. wrote.faults;
-              untouched = λ e. absurd (e refl);
-            };
-            run = (late 0 at).0;
-            too_many = λ e. absurd (omega (arith, e));
-            cleared = clears;
-            said = tt;
-          }
-
-      unrecorded : (before after : SinkSeen) → HasFew s0.search transfers →
-          WroteAll (searched_text s0.search transfers) before after → recorded ≡ Some recorder.FileFault →
-          Ends words inputs is_calm files_before files_after before after (Some FileFault) (Some blocks) recorded
-      unrecorded before after few wrote failed =
-          let at : IsLate recorded 11 = record {
-            known = (3, lit< tt, refl);
-            all = λ e. absurd (omega (arith, e));
-            failed = λ e. failed;
-          } in
-          record {
-            known = (10, lit< tt, refl);
-            written = record {
-              text = λ e. absurd (omega (arith, e));
-              text_too = λ e. text_of 11 at (λ text. WroteAll text before after) few wrote;
-              front = λ e. absurd (omega (arith, e));
-              failed = λ e. absurd (omega (arith, e));
-              quiet = λ e. wrote.faults;
-              untouched = λ e f g. absurd (g refl);
-            };
-            run = (late 11 at).0;
-            too_many = λ e. absurd (omega (arith, e));
-            cleared = clears;
-            said = (tt, tt);
-          }
-
-      broken_off : (before after : SinkSeen) → HasFew s0.search transfers →
-          WroteFront (searched_text s0.search transfers) before after →
-          Ends words inputs is_calm files_before files_after before after (Some SinkFault) (Some blocks) recorded
-      broken_off before after few wrote =
-          let at : IsLate recorded 10 = record {
-            known = (2, lit< tt, refl);
-            all = λ e. absurd (omega (arith, e));
-            failed = λ e. absurd (omega (arith, e));
-          } in
-          record {
-            known = (9, lit< tt, refl);
-            written = record {
-              text = λ e. absurd (omega (arith, e));
-              text_too = λ e. absurd (omega (arith, e));
-              front = λ e. text_of 10 at (λ text. WroteFront text before after) few wrote;
-              failed = λ e. wrote.rose;
-              quiet = λ e. absurd (e refl);
-              untouched = λ e f. absurd (f refl);
-            };
-            run = (late 10 at).0;
-            too_many = λ e. absurd (omega (arith, e));
-            cleared = clears;
-            said = (tt, tt);
-          }
-
-      crowded : (before after : SinkSeen) (n limit : ℕ) → candidate_total s0.search transfers ≡ n →
-          limit ≡ s0.search.max_candidates → limit < n → after ≡ before →
-          Ends words inputs is_calm files_before files_after before after (Some (TooMany n limit)) (Some blocks)
-          recorded
-      crowded before after n limit total most many same =
-          let at : IsLate recorded 9 = record {
-            known = (1, lit< tt, refl);
-            all = λ e. absurd (omega (arith, e));
-            failed = λ e. absurd (omega (arith, e));
-          } in
-          record {
-            known = (8, lit< tt, refl);
-            written = none_written words inputs.told 9 before after (λ e. omega (arith, e)) (λ e. omega (arith, e))
-                (λ e. omega (arith, e)) same;
-            run = (late 9 at).0;
-            too_many = λ e. candidates 9 at (λ s t. s.search.max_candidates < t) (omega (arith, total, most, many));
-            cleared = clears;
-            said = (
-              tt,
-              candidates 9 at
-                  (λ s t. (t ≡ n) × (limit ≡ s.search.max_candidates) × (limit < n)) (total, most, many),
-            );
-          }
+      all_written : (before after : SinkSeen) (n : ℕ) → IsLate recorded n → HasFew s0.search transfers →
+          WroteAll (searched_text s0.search transfers) before after → n ≢ 10 → (n ≢ 0 → n ≢ 11 → ⊥) →
+          WritesText words inputs.told before after n
+      all_written before after n at few wrote tenth ends = record {
+        text = λ e. text_of n at (λ text. WroteAll text before after) few wrote;
+        text_too = λ e. text_of n at (λ text. WroteAll text before after) few wrote;
+        front = λ e. absurd (tenth e);
+        failed = λ e. absurd (tenth e);
+        quiet = λ e. wrote.faults;
+        untouched = λ e f g. absurd (ends e g);
+      }
 
       pub at_text : (before after : SinkSeen) (stop : Option Stop) →
           EndsSearch s0.search transfers recorded before after stop →
           Ends words inputs is_calm files_before files_after before after stop (Some blocks) recorded
-      at_text before after None (few, wrote, none) = done before after few wrote none
-      at_text before after (Some FileFault) (few, wrote, failed) = unrecorded before after few wrote failed
-      at_text before after (Some SinkFault) (few, wrote) = broken_off before after few wrote
+      at_text before after None (few, wrote, none) =
+          let at = is_late 0 (0, lit< tt, refl) (λ e. none) (λ e. absurd (omega (arith, e))) in
+          late_ends before after None at (0, lit< tt, refl)
+          (all_written before after 0 at few wrote (λ e. omega (arith, e)) (λ e f. e refl))
+          (λ e. absurd (omega (arith, e))) tt
+      at_text before after (Some FileFault) (few, wrote, failed) =
+          let at = is_late 11 (3, lit< tt, refl) (λ e. absurd (omega (arith, e))) (λ e. failed) in
+          late_ends before after (Some FileFault) at (10, lit< tt, refl)
+          (all_written before after 11 at few wrote (λ e. omega (arith, e)) (λ e f. f refl))
+          (λ e. absurd (omega (arith, e))) (tt, tt)
+      at_text before after (Some SinkFault) (few, wrote) =
+          let at =
+          is_late 10 (2, lit< tt, refl) (λ e. absurd (omega (arith, e))) (λ e. absurd (omega (arith, e))) in
+          late_ends before after (Some SinkFault) at (9, lit< tt, refl) (record {
+            text = λ e. absurd (omega (arith, e));
+            text_too = λ e. absurd (omega (arith, e));
+            front = λ e. text_of 10 at (λ text. WroteFront text before after) few wrote;
+            failed = λ e. wrote.rose;
+            quiet = λ e. absurd (e refl);
+            untouched = λ e f. absurd (f refl);
+          }) (λ e. absurd (omega (arith, e))) (tt, tt)
       at_text before after (Some (TooMany n limit)) (total, most, many, same) =
-          crowded before after n limit total most many same
-      at_text before after (Some Words) e = absurd e
-      at_text before after (Some (Value opt)) e = absurd e
-      at_text before after (Some (Header file cause)) e = absurd e
-      at_text before after (Some (Plan cause)) e = absurd e
-      at_text before after (Some (Recording cause)) e = absurd e
-      at_text before after (Some Memory) e = absurd e
-      at_text before after (Some ReadFault) e = absurd e
-      at_text before after (Some (Gap file expected found)) e = absurd e
-      at_text before after (Some (TooLong limit)) e = absurd e
+          let at =
+          is_late 9 (1, lit< tt, refl) (λ e. absurd (omega (arith, e))) (λ e. absurd (omega (arith, e))) in
+          late_ends before after (Some (TooMany n limit)) at (8, lit< tt, refl)
+          (none_written words inputs.told 9 before after (λ e. omega (arith, e)) (λ e. omega (arith, e))
+          (λ e. omega (arith, e)) same)
+          (λ e. candidates 9 at (λ s t. s.search.max_candidates < t) (omega (arith, total, most, many))) (
+            tt,
+            candidates 9 at (λ s t. (t ≡ n) × (limit ≡ s.search.max_candidates) × (limit < n)) (total, most, many),
+          )
+      at_text before after stop e = absurd e
 
     -- all data were sealed where the feeder has no stop
     whole_is : (e : FeedEnd) → stop_of_feed e ≡ None → (bytes : ℕ) × (e ≡ feed.Whole bytes)
     whole_is (feed.Whole bytes) is = (bytes, refl)
-    whole_is feed.ReadFault is = absurd cc
-    whole_is (feed.BadHeader file cause) is = absurd cc
-    whole_is (feed.Gap file expected found) is = absurd cc
-    whole_is (feed.TooLong limit) is = absurd cc
+    whole_is e is = absurd cc
 
     -- what is known once all data were sealed
     pub record IsFound (before after : SinkSeen) (stop : Option Stop) : Type 0 where
@@ -273,15 +217,11 @@ module _ (words : List (List ℕ)) (inputs : InputsSeen) (is_calm : Type 0) (fil
     after_session stops wholes before after stop stopped found (Some fed) is =
         let e =
         stops Searching words s0 inputs blocks end recorded files_before files_after fed through is in
-        let two = subst (λ (x : Option Stop). IfSome x (λ f. (stop ≡ Some f) × (after ≡ before))) is stopped in
-        subst (λ (x : Option Stop).
-        Ends words inputs is_calm files_before files_after before after x (Some blocks) recorded)
-        (sym two.0) (at_short (Some blocks) recorded fed before after e clears two.1)
+        let two = rw is at stopped in rw two.0 (at_short (Some blocks) recorded fed before after e clears two.1)
     after_session stops wholes before after stop stopped found None is =
         let w = whole_is end is in
         let f = found w.0 w.1 in
-        at_text wholes is f.transfers f.known before after stop
-        (subst (λ (x : Option Stop). EndsFed x s0.search f.transfers recorded before after stop) is f.ended)
+        at_text wholes is f.transfers f.known before after stop (rw is at f.ended)
 
 -- ---- with the notes
 
@@ -295,20 +235,18 @@ pub outcome : (words : List (List ℕ)) (inputs : InputsSeen) (is_calm : Type 0)
     (record { status = status; blocks = blocks; recorded = recorded })
 outcome words inputs is_calm files_before files_after out_before out_after notes_before notes_after stop blocks recorded
     status e is noted =
-    let Run : ℕ → Type 0 = λ n. EndsRun Searching words inputs is_calm blocks recorded files_before files_after n in
-    let run = subst Run (sym is) e.run in
-    record {
-      known = subst (λ n. Contains statuses n) (sym is) e.known;
-      written = subst (λ n. WritesText words inputs.told out_before out_after n) (sym is) e.written;
-      judged = run.judged;
-      read = run.read;
-      stopped = run.ends.stopped;
-      too_many = λ nine. e.too_many (sym is ∙ nine);
-      sealed = run.ends.sealed;
+    rw is (record {
+      known = e.known;
+      written = e.written;
+      judged = e.run.judged;
+      read = e.run.read;
+      stopped = e.run.ends.stopped;
+      too_many = e.too_many;
+      sealed = e.run.ends.sealed;
       cleared = e.cleared;
-      recorded = run.ends.recorded;
-      noted = noted;
-    }
+      recorded = e.run.ends.recorded;
+      noted = rw is at noted;
+    })
 
 -- ---- what is left of the files
 
@@ -319,8 +257,8 @@ module _ (words : List (List ℕ)) {F : Type 0} (files_open : F → Type 0) (see
   stand blocks recorded status same = record {
     before_session = λ none. same;
     unrecorded = λ s says not. same;
-    closed = λ quiet shut. subst (λ (files : F). ¬ files_open files) (sym same) shut;
-    shut = λ fine shut. subst (λ (files : F). ¬ files_open files) (sym same) shut;
+    closed = λ quiet shut. rw same shut;
+    shut = λ fine shut. rw same shut;
   }
 
   pub leaves_closed : WordsSayOnce → (s0 : SettingsSeen) (blocks : Finished) (recorded : Option RecordEnd)
@@ -332,7 +270,7 @@ module _ (words : List (List ℕ)) {F : Type 0} (files_open : F → Type 0) (see
   leaves_closed once s0 blocks recorded status says0 stands rose closed whole = record {
     before_session = λ none. absurd cc;
     unrecorded = λ s says not.
-        stands (subst (λ (t : SettingsSeen). t.recording ≡ false) (once Searching words s s0 says says0) not);
+        let same = once Searching words s s0 says says0 in stands (rw same at not);
     closed = λ quiet shut. closed (fine quiet) shut;
     shut = closed;
   }

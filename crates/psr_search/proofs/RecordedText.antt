@@ -2,7 +2,6 @@
 use Rattle.std.proofs.Common.{◌≡◌, ◌⊎◌, ◌<◌, ◌≤◌, ◌+◌, ℕ, List, [], ◌∷◌, Ok, Some, true, false, refl, ap, subst, ◌∙◌, inl, inr, sym, arith, zero, suc, slice_index_or}
 use Rattle.std.specs.Prelude.{Bool, codes}
 use Rattle.std.specs.Fmt.{digits}
-use Rattle.psr_base.specs.Made.{NamedBytes}
 use Rattle.psr_base.specs.Told.{Told}
 use Rattle.psr_base.specs.Written.{WroteAll}
 use Rattle.dada_model.specs.Number.{number_value}
@@ -25,7 +24,7 @@ use Rattle.transfer_text.specs.Searched.{ObservedTransfer, searched_text, candid
 use Rattle.disk_feeder.specs.Plan.{AreTold}
 use Rattle.run_outcome.specs.Runs.{CanSearchFirst, CanRecordFirst, HasCandidates, stream_for, observed_transfers}
 use Rattle.run_outcome.specs.Outcomes.{MadeAll, files_of_data}
-use Rattle.psr_search.specs.Outcome.{SearchSeen, IsSearched, AcceptedIsSearched}
+use Rattle.psr_search.specs.Outcome.{IsSearched, AcceptedIsSearched}
 use Rattle.psr_search.specs.Causes.{CausesAreAnswered}
 use Rattle.psr_search.specs.RecordedSample.{recording_words, limited_words, first_header, next_header, first_file, next_file, text_of_two, made_files, IsFoundAndMade, BothAreRecorded, BothAreTooMany}
 
@@ -44,18 +43,18 @@ settings most recording file_size max_bytes =
       starts = 0 ∷ 1 ∷ [];
     }
 
-recording_settings : SettingsSeen
+abbrev recording_settings : SettingsSeen
 recording_settings = settings 65536 true 4 1000
 
-limited_settings : SettingsSeen
+abbrev limited_settings : SettingsSeen
 limited_settings = settings 0 false 1073741824 1099511627776
 
 say_recording : SaySearch recording_words recording_settings
-unfolding recording_settings settings search sample_search number_value clap_on_literals
+unfolding settings search sample_search number_value clap_on_literals
 say_recording = record { taken = refl; in_range = refl; values = refl }
 
 say_limit : SaySearch limited_words limited_settings
-unfolding limited_settings settings search sample_search number_value clap_on_literals
+unfolding settings search sample_search number_value clap_on_literals
 say_limit = record { taken = refl; in_range = refl; values = refl }
 
 -- ---- the files
@@ -171,25 +170,23 @@ recorded_first (suc (suc k)) below = absurd (omega (arith, below))
 
 -- ---- what is told
 
-told_both : (told : Told) → told.bytes_under (codes "first.dada") ≡ Some first_file →
-    told.bytes_under (codes "next.dada") ≡ Some next_file → (k : ℕ) → k < 2 →
-    told.bytes_under (slice_index_or (codes "first.dada" ∷ codes "next.dada" ∷ []) k [])
-    ≡ Some (slice_index_or files k [])
-unfolding files
-told_both told first next zero below = first
-told_both told first next (suc zero) below = next
-told_both told first next (suc (suc k)) below = absurd (omega (arith, below))
-
-are_told : (told : Told) → told.bytes_under (codes "first.dada") ≡ Some first_file →
+are_told : (told : Told) (most : ℕ) (recording : Bool) (file_size max_bytes : ℕ) →
+    told.bytes_under (codes "first.dada") ≡ Some first_file →
     told.bytes_under (codes "next.dada") ≡ Some next_file →
-    AreTold told (codes "first.dada" ∷ codes "next.dada" ∷ []) files
-unfolding files
-are_told told first next = record { count = refl; each = told_both told first next }
+    AreTold told (settings most recording file_size max_bytes).names files
+unfolding settings files
+are_told told most recording file_size max_bytes first next = record { count = refl; each = each }
+  where
+    each : (k : ℕ) → k < 2 →
+        told.bytes_under (slice_index_or (codes "first.dada" ∷ codes "next.dada" ∷ []) k [])
+        ≡ Some (slice_index_or (first_file ∷ next_file ∷ []) k [])
+    each zero below = first
+    each (suc k) below = let last : k ≡ 0 = omega arith in rw last next
 
 -- ---- the outcome
 
 searched : IsSearched recording_settings (stream_for recording_settings files)
-unfolding recording_settings settings search sample_search stream files
+unfolding settings search sample_search stream files
 searched = record {
   begins = record {
     accepted = walked 1000;
@@ -203,11 +200,11 @@ searched = record {
 
 text_of_files : searched_text recording_settings.search (observed_transfers (stream_for recording_settings files))
     ≡ text_of_two
-unfolding recording_settings settings stream
+unfolding settings stream
 text_of_files = ap (searched_text (search 65536)) (transfers_are 1000) ∙ text_is
 
 made_of_files : files_of_data (stream_for recording_settings files) recording_settings.file_size ≡ made_files
-unfolding recording_settings settings stream
+unfolding settings stream
 made_of_files = files_are
 
 no_two : false ≡ true → ⊥
@@ -215,7 +212,7 @@ no_two e = cc
 
 crowded : HasCandidates limited_settings (stream_for limited_settings files)
     (λ total. limited_settings.search.max_candidates < total)
-unfolding limited_settings settings search sample_search stream files
+unfolding settings search sample_search stream files
 crowded = record {
   begins = record {
     accepted = walked 1099511627776;
@@ -227,50 +224,24 @@ crowded = record {
       (sym (ap (candidate_total (search 0)) (transfers_are 1099511627776) ∙ one_candidate 0)) (omega arith);
 }
 
-both_are_told : (told : Told) → told.bytes_under (codes "first.dada") ≡ Some first_file →
-    told.bytes_under (codes "next.dada") ≡ Some next_file → AreTold told recording_settings.names files
-unfolding recording_settings settings
-both_are_told told first next = are_told told first next
-
-both_are_told_too : (told : Told) → told.bytes_under (codes "first.dada") ≡ Some first_file →
-    told.bytes_under (codes "next.dada") ≡ Some next_file → AreTold told limited_settings.names files
-unfolding limited_settings settings
-both_are_told_too told first next = are_told told first next
-
 it_records : recording_settings.recording ≡ true
-unfolding recording_settings settings
+unfolding settings
 it_records = refl
 
 pub both_are_recorded : (is_calm : Type 0) → AcceptedIsSearched is_calm → BothAreRecorded is_calm
 both_are_recorded is_calm law inputs files_before files_after out_before out_after notes_before notes_after ran first
-    next outcome calm out_quiet files_quiet = by_status ended
+    next outcome calm out_quiet files_quiet =
+    by_status
+    (law recording_words _ outcome recording_settings files say_recording told searched calm out_quiet files_quiet)
   where
     told : AreTold inputs.told recording_settings.names files
-    told = both_are_told inputs.told first next
-
-    seen : SearchSeen
-    seen = record {
-      inputs = inputs;
-      files_before = files_before;
-      files_after = files_after;
-      out_before = out_before;
-      out_after = out_after;
-      notes_before = notes_before;
-      notes_after = notes_after;
-      ran = ran;
-    }
-
-    ended : (ran.status ≡ 0) ⊎ (ran.status ≡ 5)
-    ended = law recording_words seen outcome recording_settings files say_recording told searched calm out_quiet
-        files_quiet
+    told = are_told inputs.told 65536 true 4 1000 first next
 
     text_at : ran.status ≡ 0 → WroteAll text_of_two out_before out_after
-    text_at e = subst (λ (text : List ℕ). WroteAll text out_before out_after) text_of_files
-        (outcome.written.text e recording_settings files say_recording told).1
+    text_at e = rw text_of_files at (outcome.written.text e recording_settings files say_recording told).1
 
     files_at : ran.status ≡ 0 → MadeAll made_files files_before files_after
-    files_at e = subst (λ (made : List NamedBytes). MadeAll made files_before files_after) made_of_files
-        (outcome.recorded.all e recording_settings files say_recording told it_records).1
+    files_at e = rw made_of_files at (outcome.recorded.all e recording_settings files say_recording told it_records).1
 
     by_status : (ran.status ≡ 0) ⊎ (ran.status ≡ 5) →
         ((ran.status ≡ 0) × IsFoundAndMade files_before files_after out_before out_after) ⊎ (ran.status ≡ 5)
@@ -280,17 +251,5 @@ both_are_recorded is_calm law inputs files_before files_after out_before out_aft
 pub both_are_too_many : (is_calm : Type 0) → CausesAreAnswered is_calm → BothAreTooMany is_calm
 both_are_too_many is_calm law inputs files_before files_after out_before out_after notes_before notes_after ran first
     next outcome calm out_quiet files_quiet =
-    (law limited_words seen outcome limited_settings files say_limit (both_are_told_too inputs.told first next)
-    calm).too_many crowded
-  where
-    seen : SearchSeen
-    seen = record {
-      inputs = inputs;
-      files_before = files_before;
-      files_after = files_after;
-      out_before = out_before;
-      out_after = out_after;
-      notes_before = notes_before;
-      notes_after = notes_after;
-      ran = ran;
-    }
+    (law limited_words _ outcome limited_settings files say_limit
+    (are_told inputs.told 0 false 1073741824 1099511627776 first next) calm).too_many crowded

@@ -1,12 +1,12 @@
 -- The sample, computed.
-use Rattle.std.proofs.Common.{◌≡◌, ℕ, List, [], ◌∷◌, Ok, Some, refl, ap, subst, ◌∙◌, arith, zero, suc, ◌<◌, slice_index_or}
+use Rattle.std.proofs.Common.{◌≡◌, ℕ, List, [], ◌∷◌, Some, refl, ap, subst, ◌∙◌, arith}
 use Rattle.std.specs.Prelude.{codes}
 use Rattle.std.specs.Fmt.{digits}
 use Rattle.psr_base.specs.Told.{Told}
 use Rattle.psr_base.specs.Written.{WroteAll}
 use Rattle.dada_model.specs.Number.{number_value}
-use Rattle.dada_model.specs.Fields.{HeaderText, is_white, without_comment, words_of, fields_of, value_of, header_size, header_of}
-use Rattle.dada_model.specs.Observation.{Observation, number_of, observation_in, signed_edge, edge, edges, refusal_at, refusals, observation_of, dispersion_span, dm}
+use Rattle.dada_model.specs.Fields.{is_white, without_comment, words_of, fields_of, value_of, header_size, header_of}
+use Rattle.dada_model.specs.Observation.{Observation, number_of, observation_in, signed_edge, edge, edges, dispersion_span, dm}
 use Rattle.dada_model.specs.Worked.{two_channels}
 use Rattle.search_model.specs.Paths.{entry, path}
 use Rattle.clap.proofs.OnLiterals.{clap_on_literals}
@@ -16,22 +16,10 @@ use Rattle.stream_model.specs.Walk.{FileStream, data_of, data_between, observati
 use Rattle.transfer_text.specs.Searched.{ObservedTransfer, searched_text}
 use Rattle.disk_feeder.specs.Plan.{AreTold}
 use Rattle.run_outcome.specs.Runs.{stream_for, observed_transfers}
-use Rattle.psr_search.specs.Sample.{sample_words, sample_header, sample_data, sample_file, sample_text, SampleIsFound}
-
-header : HeaderText
-header = record { size = 4096; text = sample_header }
-
-header_is : header_of sample_file ≡ Ok header
-unfolding header header_of header_size fields_of value_of words_of without_comment is_white number_value
-header_is = refl
+use Rattle.psr_search.specs.Sample.{sample_words, sample_data, sample_file, sample_text, SampleIsFound}
 
 observation : Observation
 observation = two_channels
-
-observation_is : observation_of (fields_of sample_header) ≡ Ok observation
-unfolding observation fields_of value_of words_of without_comment is_white number_value number_of observation_in
-    signed_edge edge refusal_at refusals observation_of
-observation_is = refl
 
 settings : SettingsSeen
 settings = default_settings sample_search (codes "pulse.dada" ∷ [])
@@ -49,19 +37,10 @@ unfolding settings sample_search number_value clap_on_literals
 says = record { taken = refl; in_range = refl; values = refl }
 
 -- the bytes of the one file are told
-there : (told : Told) → told.bytes_under (codes "pulse.dada") ≡ Some sample_file → (k : ℕ) → k < 1 →
-    told.bytes_under (slice_index_or (codes "pulse.dada" ∷ []) k []) ≡ Some (slice_index_or (sample_file ∷ []) k [])
-there told known zero below = known
-there told known (suc k) below = absurd (omega (arith, below))
-
 are_told : (told : Told) → told.bytes_under (codes "pulse.dada") ≡ Some sample_file →
-    AreTold told (codes "pulse.dada" ∷ []) (sample_file ∷ [])
-are_told told known = record { count = refl; each = there told known }
-
-are_told_of_settings : (told : Told) → told.bytes_under (codes "pulse.dada") ≡ Some sample_file →
     AreTold told settings.names (sample_file ∷ [])
 unfolding settings
-are_told_of_settings told known = are_told told known
+are_told told known = record { count = refl; each = λ k below. let first : k ≡ 0 = omega arith in rw first known }
 
 sample_stream : FileStream
 sample_stream = record { files = sample_file ∷ []; starts = 0 ∷ []; max_bytes = 1099511627776 }
@@ -77,6 +56,6 @@ searched_is = ap (searched_text sample_search) transfers_are ∙ text_is
 
 pub found : (is_calm : Type 0) → SampleIsFound is_calm
 found is_calm inputs files_before files_after out_before out_after notes_before notes_after ran known outcome zeroth =
-    let are = are_told_of_settings inputs.told known in
+    let are = are_told inputs.told known in
     let wrote = (outcome.written.text zeroth settings (sample_file ∷ []) says are).1 in
     (subst (λ (text : List ℕ). WroteAll text out_before out_after) searched_is wrote).written

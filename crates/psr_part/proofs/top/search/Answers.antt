@@ -1,15 +1,36 @@
-use Rattle.std.proofs.Common.{◌≡◌, Some, None, inr, refl, subst, map}
-use Rattle.std.specs.Prelude.{⊤, Option, string_bytes}
-use Rattle.ring_ends.specs.declared.finished.Finished.{Finished}
+use Rattle.std.proofs.Common.{Some, None, inr, refl, map}
+use Rattle.std.specs.Prelude.{⊤, string_bytes}
+use Rattle.psr_base.specs.Told.{Told}
+use Rattle.warm_restart.specs.declared.checkpoint.Checkpoint.{Checkpoint}
 use Rattle.psr_part.proofs.Endings.{at_words}
-use Rattle.run_outcome.specs.Outcomes as runs
-use Rattle.drive_lone.specs.Stops.{ReadsBefore}
-use Rattle.psr_part.specs.Part.{check_names, part_search, searching}
+use Rattle.psr_part.specs.Part.{GoesOnFrom, check_names, part_search, searching}
+use Rattle.psr_part.specs.Outcome.{AfterCheck}
 use Rattle.psr_part.proofs.Said.{until_is}
-use Rattle.psr_part.proofs.Runs.{goes_on, never, after_check, part_found, is_memory, check_read, with_blocks, where_refused, where_lone, where_driven}
+use Rattle.psr_part.proofs.Runs.{goes_on, never, after_check, part_found, is_memory, check_read, where_refused, where_lone, where_driven}
 use Rattle.psr_part.proofs.Moved.{where_calm}
-use Rattle.psr_part.proofs.Faults.{not_words, not_memory, at_check, fails, with_them}
+use Rattle.psr_part.proofs.Faults.{not_words, not_memory, at_check, fails}
 use Rattle.psr_part.proofs.top.search.Goals as goal
+use Rattle.psr_part.proofs.top.search.Goals.{In-Ok-read_checkpoint}
+
+-- a checkpoint was read that the part goes on from
+goes : (g : _) (c : In-Ok-read_checkpoint g) →
+    GoesOnFrom (g.I.Inputs.told c.args.inputs.now) (map string_bytes c.args.words.now)
+    c.in-Ok-read_checkpoint.checkpoint
+goes g c =
+    let words = map string_bytes c.args.words.now in
+    let read = c.in-Ok-read_checkpoint.ensures in
+    goes_on (g.I.Inputs.told c.args.inputs.now) words c.check_of.result.now c.in-Ok.said.until _ c.check_of.ensures
+    (until_is words c.in-Ok.said.until c.in-Ok.ensures.until) read.within.1 read.judged
+
+-- and what comes after it
+after : (g : _) (c : In-Ok-read_checkpoint g) (P : Checkpoint → Told → Type 0) →
+    P c.in-Ok-read_checkpoint.checkpoint (g.I.Inputs.told c.read_checkpoint.new.inputs) →
+    AfterCheck (map string_bytes c.args.words.now) (g.I.Inputs.told c.args.inputs.now) P
+after g c P =
+    let read = c.in-Ok-read_checkpoint.ensures in
+    after_check g.I.Inputs.told _ c.check_of.result.now c.in-Ok-read_checkpoint.checkpoint c.args.inputs.now
+    c.read_checkpoint.new.inputs c.check_of.ensures (goes g c)
+    (λ new. (read.new new).0) read.read read.inputs.names P
 
 pub returns-in-Err-clause-ends : goal.returns-in-Err-clause-ends
 returns-in-Err-clause-ends g c =
@@ -53,20 +74,16 @@ returns-in-Ok-drive_alone-clause-ends g c =
     let driven = c.in-Ok-drive_alone.ensures in
     let from = c.in-Ok-read_checkpoint.checkpoint in
     let until = c.in-Ok.said.until in
-    let same = until_is words c.in-Ok.said.until c.in-Ok.ensures.until in
     let says = c.in-Ok.ensures.says from in
-    with_blocks _ _ _ _ _ c.finish.result.stop c.in-Ok-drive_alone.found.blocks c.finish.result.blocks
-    c.finish.ensures.blocks
-    (where_driven g.I.Inputs.told g.I.Inputs.is_calm g.I.Inputs.faults words c.args.inputs.now
-    c.read_checkpoint.new.inputs c.drive_alone.new.inputs _ _ from
-    (goes_on told words c.check_of.result.now until from c.check_of.ensures same read.within.1 read.judged) says
-    read.inputs
+    rw c.finish.ensures.blocks (where_driven g.I.Inputs.told g.I.Inputs.is_calm g.I.Inputs.faults words
+    c.args.inputs.now c.read_checkpoint.new.inputs c.drive_alone.new.inputs _ _ from
+    (goes g (goal.at.returns-in-Ok-drive_alone-clause-ends g c).In-Ok-read_checkpoint) says read.inputs
     (never from) c.in-Ok-drive_alone.found driven.inputs driven.serves (driven.fed _ _ says) driven.found.cleared
     driven.found.first c.words_say_once.ensures (c.alone_at_feed_stop.ensures.with_more c.args.inputs.now told
     (check_names words))
     (c.alone_after_whole.ensures.with_more c.args.inputs.now told (check_names words)) _ _ c.finish.result.stop
     c.finish.ensures.stopped
-    until same (λ count is.
+    until (until_is words until c.in-Ok.ensures.until) (λ count is.
     let part = part_found _ _ c.in-Ok-drive_alone.found from until _ _ read.within c.in-Ok.ensures.bound
     c.in-Ok.ensures.unfolded c.in-Ok.ensures.in_range c.of-scope.ensures.place c.of-scope.ensures.until driven.found
     count is in
@@ -82,13 +99,9 @@ returns-clause-ends g c =
     let read = c.in-Ok-read_checkpoint.ensures in
     let driven = c.in-Err-drive_alone.ensures in
     let from = c.in-Ok-read_checkpoint.checkpoint in
-    let until = c.in-Ok.said.until in
-    let same = until_is words c.in-Ok.said.until c.in-Ok.ensures.until in
     let says = c.in-Ok.ensures.says from in
     where_lone g.I.Inputs.told g.I.Inputs.is_calm g.I.Inputs.faults words c.args.inputs.now c.read_checkpoint.new.inputs
-    c.drive_alone.new.inputs _ _ from
-    (goes_on told words c.check_of.result.now until from c.check_of.ensures same read.within.1 read.judged) says
-    read.inputs
+    c.drive_alone.new.inputs _ _ from (goes g (goal.at.returns-clause-ends g c).In-Ok-read_checkpoint) says read.inputs
     (never from) (λ o. ⊤)
     (λ o refusal. ⊥) c.in-Err-drive_alone.stop c.stop_of_run.result c.stop_of_run.ensures driven.inputs driven.serves
     (driven.stopped _ _ says) (c.alone_before_session.ensures.with_more c.args.inputs.now told (check_names words)) _
@@ -113,38 +126,31 @@ returns-in-Err-read_checkpoint-clause-broken g c = λ is.
 
 pub returns-in-Ok-drive_alone-clause-broken : goal.returns-in-Ok-drive_alone-clause-broken
 returns-in-Ok-drive_alone-clause-broken g c = λ is.
-    let told = g.I.Inputs.told c.args.inputs.now in
     let words = map string_bytes c.args.words.now in
-    let read = c.in-Ok-read_checkpoint.ensures in
-    let driven = c.in-Ok-drive_alone.ensures in
     let from = c.in-Ok-read_checkpoint.checkpoint in
-    let found = c.in-Ok-drive_alone.found in
-    let until = c.in-Ok.said.until in
-    with_them words (g.I.Inputs.is_calm c.args.inputs.now) told (g.I.Inputs.told c.drive_alone.new.inputs)
-    (Some found.blocks)
-    c.finish.result.blocks c.finish.ensures.blocks
-    (inr (after_check g.I.Inputs.told words c.check_of.result.now until from c.args.inputs.now
-    c.read_checkpoint.new.inputs c.check_of.ensures (until_is words until c.in-Ok.ensures.until) read.within.1
-    read.judged (λ new. (read.new new).0) read.read read.inputs.names
-    (λ x told. runs.LeavesAtFault (searching words x) words (g.I.Inputs.is_calm c.args.inputs.now) told
-    (g.I.Inputs.told c.drive_alone.new.inputs) (Some found.blocks))
-    (where_calm (searching words from) words _ _ _ _ (Some found.blocks) read.inputs.calm
-    (driven.broken (c.finish.ensures.read_fault is) _ words (c.in-Ok.ensures.says from)))))
+    rw c.finish.ensures.blocks
+    (inr (after g (goal.at.returns-in-Ok-drive_alone-clause-broken g c).In-Ok-read_checkpoint _
+    (where_calm (searching words from) words _ _ _ _ (Some c.in-Ok-drive_alone.found.blocks)
+    c.in-Ok-read_checkpoint.ensures.inputs.calm
+    (c.in-Ok-drive_alone.ensures.broken (c.finish.ensures.read_fault is) _ words (c.in-Ok.ensures.says from)))))
 
 pub returns-clause-early : goal.returns-clause-early
 returns-clause-early g c = λ is.
     let words = map string_bytes c.args.words.now in
-    let read = c.in-Ok-read_checkpoint.ensures in
     let from = c.in-Ok-read_checkpoint.checkpoint in
-    let until = c.in-Ok.said.until in
-    inr (after_check g.I.Inputs.told words c.check_of.result.now until from c.args.inputs.now
-    c.read_checkpoint.new.inputs c.check_of.ensures (until_is words until c.in-Ok.ensures.until) read.within.1
-    read.judged (λ new. (read.new new).0) read.read read.inputs.names
-    (λ x told. runs.ReadsNoData (searching words x) words told (g.I.Inputs.told c.drive_alone.new.inputs))
-    (subst (λ x. ReadsBefore (part_search words from) words (g.I.Inputs.told c.read_checkpoint.new.inputs)
-    (g.I.Inputs.told c.drive_alone.new.inputs) x)
-    (is_memory c.in-Err-drive_alone.stop c.stop_of_run.result c.stop_of_run.ensures is)
-    (c.in-Err-drive_alone.ensures.unread (part_search words from) words (c.in-Ok.ensures.says from)) refl))
+    let same = is_memory c.in-Err-drive_alone.stop c.stop_of_run.result c.stop_of_run.ensures is in
+    inr (after g (goal.at.returns-clause-early g c).In-Ok-read_checkpoint _ ((rw same at
+    (c.in-Err-drive_alone.ensures.unread (part_search words from) words (c.in-Ok.ensures.says from))) refl))
+
+pub returns-clause-broken : goal.returns-clause-broken
+returns-clause-broken g c = λ is.
+    let words = map string_bytes c.args.words.now in
+    let from = c.in-Ok-read_checkpoint.checkpoint in
+    inr (after g (goal.at.returns-clause-broken g c).In-Ok-read_checkpoint _
+    (where_calm (searching words from) words _ _ _ _ None c.in-Ok-read_checkpoint.ensures.inputs.calm
+    (c.in-Err-drive_alone.ensures.broken
+    (fails c.in-Err-drive_alone.stop c.stop_of_run.result c.stop_of_run.ensures is) _ words
+    (c.in-Ok.ensures.says from))))
 
 -- ---- what was read where the checkpoint is refused
 
@@ -158,22 +164,4 @@ returns-in-Err-read_checkpoint-clause-refused g c = λ refusal is none.
 
 pub returns-in-Ok-drive_alone-clause-refused : goal.returns-in-Ok-drive_alone-clause-refused
 returns-in-Ok-drive_alone-clause-refused g c = λ refusal is none.
-    absurd (no_blocks c.in-Ok-drive_alone.found.blocks c.finish.result.blocks c.finish.ensures.blocks none)
-  where
-    no_blocks : (b : Finished) (blocks : Option Finished) → blocks ≡ Some b → blocks ≡ None → ⊥
-    no_blocks b blocks some none = cc
-
-pub returns-clause-broken : goal.returns-clause-broken
-returns-clause-broken g c = λ is.
-    let words = map string_bytes c.args.words.now in
-    let read = c.in-Ok-read_checkpoint.ensures in
-    let from = c.in-Ok-read_checkpoint.checkpoint in
-    let until = c.in-Ok.said.until in
-    inr (after_check g.I.Inputs.told words c.check_of.result.now until from c.args.inputs.now
-    c.read_checkpoint.new.inputs c.check_of.ensures (until_is words until c.in-Ok.ensures.until) read.within.1
-    read.judged (λ new. (read.new new).0) read.read read.inputs.names
-    (λ x told. runs.LeavesAtFault (searching words x) words (g.I.Inputs.is_calm c.args.inputs.now) told
-    (g.I.Inputs.told c.drive_alone.new.inputs) None)
-    (where_calm (searching words from) words _ _ _ _ None read.inputs.calm (c.in-Err-drive_alone.ensures.broken
-    (fails c.in-Err-drive_alone.stop c.stop_of_run.result c.stop_of_run.ensures is) _ words
-    (c.in-Ok.ensures.says from))))
+    let some = c.finish.ensures.blocks in absurd cc

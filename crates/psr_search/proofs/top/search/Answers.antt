@@ -1,6 +1,4 @@
-use Rattle.std.proofs.Common.{◌≡◌, Some, refl, ap}
-use Rattle.run_outcome.specs.declared.stop.Stop.{Stop}
-use Rattle.run_outcome.specs.declared.stop.Stop.TheVariants.{ReadFault}
+use Rattle.std.proofs.Common.{refl, ap}
 use Rattle.run_outcome.specs.Conversions.{stop_of_feed}
 use Rattle.psr_search.proofs.Endings.{at_once, after_session, stand, leaves_closed}
 use Rattle.psr_search.proofs.top.search.Goals as goal
@@ -53,12 +51,9 @@ pub returns-in-Ok-drive-clause-broken : goal.returns-in-Ok-drive-clause-broken
 returns-in-Ok-drive-clause-broken g c = λ failed.
     c.in-Ok-drive.ensures.leaves.broken (c.write_end-stop.ensures.read_fault failed) _ c.in-Ok.ensures.says
 
-one_stop : (a b : Stop) → Some a ≡ Some b → a ≡ b
-one_stop a b e = cc
-
 pub returns-clause-broken : goal.returns-clause-broken
 returns-clause-broken g c = λ failed.
-    c.in-Err-drive.ensures.leaves.broken (one_stop c.in-Err-drive.stop ReadFault failed) _ c.in-Ok.ensures.says
+    c.in-Err-drive.ensures.leaves.broken (cc) _ c.in-Ok.ensures.says
 
 -- ---- what is left of the files
 
