@@ -1,6 +1,6 @@
 -- From what stands against a search to its status, by the laws of how a run ends.
 use Rattle.std.proofs.Common.{◌≡◌, ◌≢◌, ◌<◌, ◌⊎◌, ℕ, zero, suc, List, [], ◌∷◌, inl, inr, sym, subst, refl, Some, None, arith}
-use Rattle.std.specs.Prelude.{Option, IsSome, length, slice_index_or}
+use Rattle.std.specs.Prelude.{Option, IsSome, length}
 use Rattle.psr_base.specs.Count.{Rose}
 use Rattle.psr_base.specs.Told.{Told}
 use Rattle.ring_ends.specs.declared.finished.Finished.{Finished}
@@ -9,7 +9,6 @@ use Rattle.stream_model.specs.Walk as walk
 use Rattle.stream_model.specs.Walk.{FileStream, WalkStop, walk_stop}
 use Rattle.stream_model.specs.WalkLaws.{AreWalked}
 use Rattle.disk_feeder.specs.Plan.{AreTold, AreToldAt, IsFirstFile}
-use Rattle.disk_feeder.specs.Filling.{HoldsAll}
 use Rattle.disk_feeder.specs.Reading.{StopsAtFile}
 use Rattle.disk_feeder.specs.declared.answers.HeaderCause.{HeaderCause}
 use Rattle.disk_feeder.specs.declared.answers.HeaderCause.TheVariants.{Text, Fields}
@@ -32,11 +31,7 @@ use Rattle.psr_mask.specs.declared.refusal.MaskRefusal.{MaskRefusal}
 use Rattle.psr_mask.specs.declared.refusal.MaskRefusal.TheVariants.{BadMask, OutOfRange, AllMasked}
 use Rattle.psr_mask.proofs.Statuses.{from_each, left, sealed_by_run}
 
--- the bytes of all names are told
-holds_all : (told : Told) (names files : List (List ℕ)) → AreTold told names files → HoldsAll told names
-holds_all told names files are k below = subst IsSome (sym (are.each k below)) refl
-
--- and those that are needed
+-- those files that are needed are told where all are
 pub needed_told : (told : Told) (names files : List (List ℕ)) → AreTold told names files → {Needed : ℕ → Type 0} →
     AreToldAt Needed told names files
 needed_told told names files are = record { count = are.count; each = λ k there is. are.each k there }
@@ -92,10 +87,7 @@ first_told : (told : Told) (s : SettingsSeen) (files : List (List ℕ)) → AreW
     IsSome (told.bytes_under (first_name s.names s.starts 0))
 first_told told s files walked are =
     let some = walked.starts.some in
-    let count = are.count in
-    let within : slice_index_or s.starts 0 (length s.names) < length s.names =
-    subst (λ n. slice_index_or s.starts 0 n < n) count (walked.starts.within 0 some) in
-    subst IsSome (sym (are.each (slice_index_or s.starts 0 (length s.names)) within (0, some, refl))) refl
+    let within = rw are.count at (walked.starts.within 0 some) in rw (are.each _ within (0, some, refl)) refl
 
 -- ---- a mask that is refused, by the first file alone
 
@@ -150,7 +142,7 @@ module _ (words : List (List ℕ)) (is_calm : Type 0) (seen : SearchSeen) (outco
 
   not_six : Quiet is_calm seen → n ≡ 6 → ⊥
   not_six (inl is) e =
-      outcome.answered.run.read.serves is s says (holds_all seen.inputs.told s.names files are) e
+      outcome.answered.run.read.serves is s says (λ k below. rw (are.each k below) refl) e
   not_six (inr still) e = still (outcome.answered.run.read.failed e)
 
   needed : {Needed : ℕ → Type 0} → AreToldAt Needed seen.inputs.told s.names files

@@ -17,7 +17,7 @@ use Rattle.search_words.specs.declared.fault.WordFault.{WordFault}
 use Rattle.search_words.specs.declared.fault.WordFault.TheVariants as words_fault
 use Rattle.search_words.specs.Settings.{SettingsSeen}
 use Rattle.stream_model.specs.Walk as walk
-use Rattle.stream_model.specs.Walk.{FileStream, walk_stop}
+use Rattle.stream_model.specs.Walk.{FileStream, transfer_data, walk_stop}
 use Rattle.disk_feeder.specs.Plan.{AreTold, AreToldAt, IsFirstFile}
 use Rattle.run_outcome.specs.declared.stop.Stop.{Stop}
 use Rattle.run_outcome.specs.declared.stop.Stop.TheVariants.{Plan, Recording, Memory, ReadFault, TooMany, SinkFault}
@@ -37,10 +37,10 @@ use Rattle.drive_lone.specs.Scopes.{SaysObservation}
 use Rattle.drive_lone.specs.Stops.{BeginsWith, StopsAlone, FailsReading}
 use Rattle.drive_lone.specs.Outcomes.{RunsAlone, EndsAlone}
 use Rattle.drive_lone.specs.EndLaws.{AloneBeforeSession, AloneAtOwnStop, AloneAtFeedStop, AloneAfterWhole, GoesThrough}
-use Rattle.psr_mask.specs.Masking.{ForMask, AcceptsMask, AcceptsMaskWord, RefusesMask, RefusesMaskWord, ScopesMask, mask_search, mask_word, masked_list, text_without}
+use Rattle.psr_mask.specs.Masking.{ForMask, AcceptsMask, AcceptsMaskWord, RefusesMask, RefusesMaskWord, ScopesMask, mask_search, mask_word}
 use Rattle.psr_mask.specs.Notes.{mask_status, end_status}
 use Rattle.psr_mask.specs.Outcome.{Answered, HasMasked, HasText, Outcome, TellsMask, WritesMasked}
-use Rattle.psr_mask.specs.Ends.{Ends, EndsFed, EndsKept, HoldsKept, as_alone}
+use Rattle.psr_mask.specs.Ends.{Ends, EndsFed, EndsKept, HoldsKept, IsSaidOf, as_alone}
 use Rattle.psr_mask.specs.declared.refusal.MaskRefusal.{MaskRefusal}
 use Rattle.psr_mask.proofs.Causes.{needed_told}
 use Rattle.psr_mask.proofs.Statuses.{fault_is, from_each, statuses, whole_is}
@@ -48,15 +48,6 @@ use Rattle.psr_mask.proofs.Statuses.{fault_is, from_each, statuses, whole_is}
 -- the statuses of a search whose data were all sealed
 abbrev late_statuses : List ℕ
 late_statuses = 0 ∷ 9 ∷ 10 ∷ 12 ∷ []
-
-is_done : Contains late_statuses 0
-is_done = (0, lit< tt, refl)
-
-is_crowded : Contains late_statuses 9
-is_crowded = (1, lit< tt, refl)
-
-is_broken_off : Contains late_statuses 10
-is_broken_off = (2, lit< tt, refl)
 
 none_written : (words : List (List ℕ)) (told : Told) (n : ℕ) (before after : SinkSeen) → n ≢ 0 → n ≢ 10 →
     after ≡ before → WritesMasked words told before after n
@@ -144,8 +135,7 @@ module _ (words : List (List ℕ)) (inputs : InputsSeen) (is_calm : Type 0) wher
       -- the plan was not refused, and the inputs did not fail
       apart : (f : WordFault) → (status_of (stop_of_words f) ≢ 4) × (status_of (stop_of_words f) ≢ 6)
       apart words_fault.Refused = ((λ e. omega (arith, e)), (λ e. omega (arith, e)))
-      apart (words_fault.OutOfRange opt) = ((λ e. omega (arith, e)), (λ e. omega (arith, e)))
-      apart words_fault.Memory = ((λ e. omega (arith, e)), (λ e. omega (arith, e)))
+      apart other = ((λ e. omega (arith, e)), (λ e. omega (arith, e)))
 
   -- ---- between the words and the session
 
@@ -259,17 +249,14 @@ module _ (words : List (List ℕ)) (inputs : InputsSeen) (is_calm : Type 0) wher
       abbrev lines : List ℕ
       lines = text_of found.observation all.bytes
 
-      list_is : (files : List (List ℕ)) → AreTold inputs.told s0.names files →
-          list ≡ masked_list words s0 (stream_for s0 files)
-      list_is files are =
-          ap (λ (o : Observation). list_of o all.bytes) (sym (is.first files (needed_told _ _ _ are)))
-          ∙ ap (list_of (first_observation (stream_for s0 files) 0)) (all.known files are)
-
-      lines_are : (files : List (List ℕ)) → AreTold inputs.told s0.names files →
-          lines ≡ text_without words s0 (stream_for s0 files)
-      lines_are files are =
-          ap (λ (o : Observation). text_of o all.bytes) (sym (is.first files (needed_told _ _ _ are)))
-          ∙ ap (text_of (first_observation (stream_for s0 files) 0)) (all.known files are)
+      -- what holds of the data that were searched holds of those of the files
+      of_files : (Q : Observation → List ℕ → Type 0) → Q found.observation all.bytes → (files : List (List ℕ)) →
+          AreTold inputs.told s0.names files →
+          let w = stream_for s0 files in Q (first_observation w 0) (transfer_data w 0)
+      of_files Q q files are =
+          let w = stream_for s0 files in
+          subst (Q (first_observation w 0)) (all.known files are)
+          (subst (λ o. Q o all.bytes) (sym (is.first files (needed_told _ _ _ are))) q)
 
       late : (n : ℕ) → Contains late_statuses n →
           RunsAlone mask_status (mask_search words) words inputs is_calm (Some found.blocks) n
@@ -286,77 +273,65 @@ module _ (words : List (List ℕ)) (inputs : InputsSeen) (is_calm : Type 0) wher
           record {
             begins = b.0;
             whole = b.1;
-            total = subst (λ (xs : List Candidate). P s0 (length xs)) (list_is files are) p;
+            total = of_files (λ o bytes. P s0 (length (list_of o bytes))) p files are;
           })
 
       has_text : (n : ℕ) → Contains late_statuses n → (P : List ℕ → Type 0) →
           length list ≤ s0.search.max_candidates → P lines → ForMask words inputs.told (HasText words P)
       has_text n known P few p = for_settings (HasText words P) (λ files are. (
         counts n known (λ s total. total ≤ s.search.max_candidates) few s0 files through.says are,
-        subst P (lines_are files are) p,
+        of_files (λ o bytes. P (text_of o bytes)) p files are,
       ))
 
       -- what each of their statuses says
-      late_answered : (before after : SinkSeen) (n : ℕ) → Contains late_statuses n → n ≢ 12 →
-          WritesMasked words inputs.told before after n →
-          (n ≡ 9 → ForMask words inputs.told (λ s w. HasMasked words s w (λ total. s.search.max_candidates < total))) →
-          Answered words inputs is_calm before after (Some found.blocks) n
-      late_answered before after n at other written many = record {
-        known = from_each (Contains statuses) late_statuses n at (0, lit< tt, refl) (8, lit< tt, refl)
-            (9, lit< tt, refl) (10, lit< tt, refl);
-        written = written;
-        run = (late n at).0;
-        mask = record { refused = λ e. absurd (other e); accepted = λ why. accepts };
-        held = λ calm s says there six. refl;
-        too_many = many;
+      late_ends : (before after : SinkSeen) (stop : Option Stop) → let end = as_alone stop in
+          Contains late_statuses (end_status end) → end_status end ≢ 12 →
+          WritesMasked words inputs.told before after (end_status end) →
+          (end_status end ≡ 9 →
+          ForMask words inputs.told (λ s w. HasMasked words s w (λ total. s.search.max_candidates < total))) →
+          IsSaidOf words inputs.told end → Ends words inputs is_calm before after end (Some found.blocks)
+      late_ends before after stop at other written many said = record {
+        answered = record {
+          known = from_each (Contains statuses) late_statuses (end_status (as_alone stop)) at (0, lit< tt, refl)
+              (8, lit< tt, refl) (9, lit< tt, refl) (10, lit< tt, refl);
+          written = written;
+          run = (late (end_status (as_alone stop)) at).0;
+          mask = record { refused = λ e. absurd (other e); accepted = λ why. accepts };
+          held = λ calm s says there six. refl;
+          too_many = many;
+        };
+        said = said;
       }
 
       -- the whole text, or its front, or no text
-      done : (before after : SinkSeen) → length list ≤ s0.search.max_candidates → WroteAll lines before after →
-          Ends words inputs is_calm before after None (Some found.blocks)
-      done before after few wrote = record {
-        answered = late_answered before after 0 is_done (λ e. omega (arith, e)) (record {
-          text = λ e. has_text 0 is_done (λ t. WroteAll t before after) few wrote;
-          front = λ e. absurd (omega (arith, e));
-          failed = λ e. absurd (omega (arith, e));
-          quiet = λ e. wrote.faults;
-          untouched = λ e. absurd (e refl);
-        }) (λ e. absurd (omega (arith, e)));
-        said = tt;
-      }
-
-      broken_off : (before after : SinkSeen) → length list ≤ s0.search.max_candidates → WroteFront lines before after →
-          Ends words inputs is_calm before after (Some (Run SinkFault)) (Some found.blocks)
-      broken_off before after few wrote = record {
-        answered = late_answered before after 10 is_broken_off (λ e. omega (arith, e)) (record {
-          text = λ e. absurd (omega (arith, e));
-          front = λ e. has_text 10 is_broken_off (λ t. WroteFront t before after) few wrote;
-          failed = λ e. wrote.rose;
-          quiet = λ e. absurd (e refl);
-          untouched = λ e f. absurd (f refl);
-        }) (λ e. absurd (omega (arith, e)));
-        said = (tt, tt);
-      }
-
-      crowded : (before after : SinkSeen) (n limit : ℕ) → length list ≡ n → limit ≡ s0.search.max_candidates →
-          limit < n → after ≡ before →
-          Ends words inputs is_calm before after (Some (Run (TooMany n limit))) (Some found.blocks)
-      crowded before after n limit total most many same = record {
-        answered = late_answered before after 9 is_crowded (λ e. omega (arith, e))
-            (none_written words inputs.told 9 before after (λ e. omega (arith, e)) (λ e. omega (arith, e)) same)
-            (λ e. counts 9 is_crowded (λ s t. s.search.max_candidates < t) (omega (arith, total, most, many)));
-        said = (
-          tt,
-          counts 9 is_crowded (λ s t. (t ≡ n) × (limit ≡ s.search.max_candidates) × (limit < n)) (total, most, many),
-        );
-      }
-
       at_text : (before after : SinkSeen) (stop : Option Stop) → EndsKept s0.search list lines before after stop →
           Ends words inputs is_calm before after (as_alone stop) (Some found.blocks)
-      at_text before after None (few, wrote) = done before after few wrote
-      at_text before after (Some SinkFault) (few, wrote) = broken_off before after few wrote
+      at_text before after None (few, wrote) =
+          let at : Contains late_statuses 0 = (0, lit< tt, refl) in
+          late_ends before after None at (λ e. omega (arith, e)) (record {
+            text = λ e. has_text 0 at (λ t. WroteAll t before after) few wrote;
+            front = λ e. absurd (omega (arith, e));
+            failed = λ e. absurd (omega (arith, e));
+            quiet = λ e. wrote.faults;
+            untouched = λ e. absurd (e refl);
+          }) (λ e. absurd (omega (arith, e))) tt
+      at_text before after (Some SinkFault) (few, wrote) =
+          let at : Contains late_statuses 10 = (2, lit< tt, refl) in
+          late_ends before after (Some SinkFault) at (λ e. omega (arith, e)) (record {
+            text = λ e. absurd (omega (arith, e));
+            front = λ e. has_text 10 at (λ t. WroteFront t before after) few wrote;
+            failed = λ e. wrote.rose;
+            quiet = λ e. absurd (e refl);
+            untouched = λ e f. absurd (f refl);
+          }) (λ e. absurd (omega (arith, e))) (tt, tt)
       at_text before after (Some (TooMany n limit)) (total, most, many, same) =
-          crowded before after n limit total most many same
+          let at : Contains late_statuses 9 = (1, lit< tt, refl) in
+          late_ends before after (Some (TooMany n limit)) at (λ e. omega (arith, e))
+          (none_written words inputs.told 9 before after (λ e. omega (arith, e)) (λ e. omega (arith, e)) same)
+          (λ e. counts 9 at (λ s t. s.search.max_candidates < t) (omega (arith, total, most, many))) (
+            tt,
+            counts 9 at (λ s t. (t ≡ n) × (limit ≡ s.search.max_candidates) × (limit < n)) (total, most, many),
+          )
       at_text before after stop e = absurd e
 
     pub after_session : AloneAtFeedStop is_calm → AloneAfterWhole is_calm → SettingsInRange s0.search →
@@ -366,17 +341,13 @@ module _ (words : List (List ℕ)) (inputs : InputsSeen) (is_calm : Type 0) wher
         EndsFed (stop_of_feed found.feed) found.observation s0.search mask bytes before after stop) →
         (fed : Option Stop) → stop_of_feed found.feed ≡ fed →
         Ends words inputs is_calm before after (as_alone stop) (Some found.blocks)
-    after_session stops wholes range before after stop at ended (Some fed) same =
-        let two = subst (λ (x : Option Stop). IfSome x (λ f. (stop ≡ Some f) × (after ≡ before))) same at in
-        subst (λ (x : Option Stop). Ends words inputs is_calm before after (as_alone x) (Some found.blocks)) (sym two.0)
-        (stopped stops fed before after same two.1)
-    after_session stops wholes range before after stop at ended None same =
+    after_session stops wholes range before after stop fine ended (Some fed) same =
+        let two = rw same at fine in rw two.0 (stopped stops fed before after same two.1)
+    after_session stops wholes range before after stop fine ended None same =
         let w = whole_is found.feed same in
         let all = is.held w.0 w.1 in
         at_text wholes same all before after stop
-        (subst
-        (λ (x : Option Stop). EndsFed x found.observation s0.search mask all.bytes before after stop) same
-        (ended mask all.bytes (holds words inputs.told s0 found is range all)))
+        (rw same at (ended mask all.bytes (holds words inputs.told s0 found is range all)))
 
 -- ---- want of memory
 
@@ -392,17 +363,14 @@ pub memory_is_early : (words : List (List ℕ)) (inputs : InputsSeen) (is_calm :
     (stop : Option (LoneStop MaskRefusal)) (blocks : Finished) →
     Ends words inputs is_calm before after stop (Some blocks) → stop ≡ Some (Run Memory) → ⊥
 memory_is_early words inputs is_calm before after stop blocks e is =
-    let P : Option (LoneStop MaskRefusal) → Type 0 = λ x. Contains ring_statuses (end_status x) in
-    with_ring (subst P is (e.answered.run.sealed.some refl))
+    with_ring (rw is at (e.answered.run.sealed.some refl))
 
 -- an answer that is such a stop
 pub answered_so : (words : List (List ℕ)) (inputs : InputsSeen) (is_calm : Type 0) (before after : SinkSeen)
     (stop : Option Stop) (result : Option (LoneStop MaskRefusal)) (blocks : Option Finished) → result ≡ as_alone stop →
     Ends words inputs is_calm before after (as_alone stop) blocks →
     Ends words inputs is_calm before after result blocks
-answered_so words inputs is_calm before after stop result blocks is e =
-    let P : Option (LoneStop MaskRefusal) → Type 0 = λ x. Ends words inputs is_calm before after x blocks in
-    subst P (sym is) e
+answered_so words inputs is_calm before after stop result blocks is e = rw is e
 
 -- ---- with the notes
 

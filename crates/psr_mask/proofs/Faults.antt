@@ -16,8 +16,7 @@ use Rattle.psr_mask.specs.declared.refusal.MaskRefusal.{MaskRefusal}
 pub not_words : (f : WordFault) (stop : Stop) → stop ≡ stop_of_words f →
     as_alone (Some stop) ≡ Some (Run ReadFault) → ⊥
 not_words words_fault.Refused stop of same = absurd cc
-not_words (words_fault.OutOfRange opt) stop of same = absurd cc
-not_words words_fault.Memory stop of same = absurd cc
+not_words fault stop of same = absurd cc
 
 -- a search that had no session fails reading at this stop
 pub fails : (stop : LoneStop MaskRefusal) → Some stop ≡ Some (Run ReadFault) → FailsReading (Err stop)

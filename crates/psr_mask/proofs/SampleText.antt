@@ -1,5 +1,5 @@
 -- The sample, computed.
-use Rattle.std.proofs.Common.{◌≡◌, ℕ, List, [], ◌∷◌, Some, refl, ap, subst, ◌∙◌, arith, zero, suc, ◌<◌, slice_index_or}
+use Rattle.std.proofs.Common.{◌≡◌, ℕ, List, [], ◌∷◌, Some, refl, ap, subst, ◌∙◌, arith}
 use Rattle.std.specs.Prelude.{codes}
 use Rattle.std.specs.Fmt.{digits}
 use Rattle.psr_base.specs.Told.{Told}
@@ -48,19 +48,10 @@ says = record {
 }
 
 -- the bytes of the one file are told
-there : (told : Told) → told.bytes_under (codes "pulse.dada") ≡ Some sample_file → (k : ℕ) → k < 1 →
-    told.bytes_under (slice_index_or (codes "pulse.dada" ∷ []) k []) ≡ Some (slice_index_or (sample_file ∷ []) k [])
-there told known zero below = known
-there told known (suc k) below = absurd (omega (arith, below))
-
 are_told : (told : Told) → told.bytes_under (codes "pulse.dada") ≡ Some sample_file →
-    AreTold told (codes "pulse.dada" ∷ []) (sample_file ∷ [])
-are_told told known = record { count = refl; each = there told known }
-
-are_told_of_settings : (told : Told) → told.bytes_under (codes "pulse.dada") ≡ Some sample_file →
     AreTold told settings.names (sample_file ∷ [])
 unfolding settings
-are_told_of_settings told known = are_told told known
+are_told told known = record { count = refl; each = λ k below. let first : k ≡ 0 = omega arith in rw first known }
 
 sample_stream : FileStream
 sample_stream = record { files = sample_file ∷ []; starts = 0 ∷ []; max_bytes = 1099511627776 }
@@ -83,6 +74,6 @@ searched_is =
 
 pub found : (is_calm : Type 0) → SampleIsFound is_calm
 found is_calm inputs out_before out_after notes_before notes_after ran known outcome zeroth =
-    let are = are_told_of_settings inputs.told known in
+    let are = are_told inputs.told known in
     let wrote = (outcome.answered.written.text zeroth settings (sample_file ∷ []) says are).1 in
     (subst (λ (text : List ℕ). WroteAll text out_before out_after) searched_is wrote).written

@@ -1,5 +1,5 @@
 -- Statuses and stops.
-use Rattle.std.proofs.Common.{◌≡◌, ◌≢◌, ◌⊎◌, ℕ, zero, suc, Bool, true, false, List, [], ◌∷◌, ◌++◌, inl, inr, refl, sym, subst, None, Contains, lit<, arith}
+use Rattle.std.proofs.Common.{◌≡◌, ◌≢◌, ℕ, zero, suc, Bool, true, false, List, [], ◌∷◌, ◌++◌, inl, inr, refl, sym, subst, None, Contains, lit<, arith}
 use Rattle.std.proofs.lemmas.List.Elements.{Contains-append_left, Contains-push_cases}
 use Rattle.std.specs.Prelude.{Option, nat_le, ◌&&◌}
 use Rattle.psr_base.specs.Told.{Told}
@@ -58,11 +58,7 @@ sealed_by_run own lone words told blocks n other is = record {
 }
   where
     but_own : (xs : List ℕ) → Contains (xs ++ own ∷ []) n → Contains xs n
-    but_own xs there = by_case (Contains-push_cases xs own n there)
-      where
-        by_case : Contains xs n ⊎ (own ≡ n) → Contains xs n
-        by_case (inl there) = there
-        by_case (inr same) = absurd (other (sym same))
+    but_own xs there = elim (Contains-push_cases xs own n there) [ inl is ↦ is | inr same ↦ absurd (other (sym same)) ]
 
     not_stopped : Contains (0 ∷ 9 ∷ 10 ∷ 11 ∷ []) n → ¬ Contains (3 ∷ 6 ∷ 7 ∷ 8 ∷ []) n
     not_stopped late stopped =

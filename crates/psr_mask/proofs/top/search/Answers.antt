@@ -5,10 +5,9 @@ use Rattle.channel_mask.specs.Masks.{mask_of}
 use Rattle.run_outcome.specs.Conversions.{stop_of_feed}
 use Rattle.run_outcome.specs.declared.stop.Stop.{Stop}
 use Rattle.run_outcome.specs.declared.stop.Stop.TheVariants.{Memory}
-use Rattle.drive_lone.specs.declared.stop.LoneStop.{LoneStop}
 use Rattle.drive_lone.specs.declared.stop.LoneStop.TheVariants.{Run, Unscoped}
 use Rattle.drive_lone.specs.Found.{IsFoundAlone}
-use Rattle.drive_lone.specs.Stops.{ReadsBefore, StopsAlone}
+use Rattle.drive_lone.specs.Stops.{StopsAlone}
 use Rattle.psr_mask.specs.Ends.{as_alone}
 use Rattle.psr_mask.specs.Masking.{mask_search, mask_word, AcceptsMask, RefusesMask, ScopesMask}
 use Rattle.psr_mask.specs.declared.refusal.MaskRefusal.{MaskRefusal}
@@ -73,26 +72,19 @@ pub returns-in-Ok-drive_alone-clause-early : goal.returns-in-Ok-drive_alone-clau
 returns-in-Ok-drive_alone-clause-early g c = λ is.
     absurd (memory_is_early _ _ _ _ _ _ _ (returns-in-Ok-drive_alone-clause-ends g c) is)
 
-one_stop : (a b : LoneStop MaskRefusal) → Some a ≡ Some b → a ≡ b
-one_stop a b e = cc
-
 pub returns-clause-early : goal.returns-clause-early
 returns-clause-early g c = λ is.
     let words = map string_bytes c.args.words.now in
-    let told = g.I.Inputs.told in
-    subst (λ x. ReadsBefore (mask_search words) words (told c.args.inputs.now) (told c.drive_alone.new.inputs) x)
-    (one_stop c.in-Err-drive_alone.stop (Run Memory) is)
-    (c.in-Err-drive_alone.ensures.unread (mask_search words) words c.in-Ok.ensures.says) refl
+    let same : c.in-Err-drive_alone.stop ≡ Run Memory = cc in
+    (rw same at (c.in-Err-drive_alone.ensures.unread (mask_search words) words c.in-Ok.ensures.says)) refl
 
 -- ---- what was read where the mask is refused
 
 pub returns-clause-refused : goal.returns-clause-refused
 returns-clause-refused g c = λ refusal is.
     let words = map string_bytes c.args.words.now in
-    let told = g.I.Inputs.told in
-    subst (λ x. ReadsBefore (mask_search words) words (told c.args.inputs.now) (told c.drive_alone.new.inputs) x)
-    (one_stop c.in-Err-drive_alone.stop (Unscoped refusal) is)
-    (c.in-Err-drive_alone.ensures.unread (mask_search words) words c.in-Ok.ensures.says)
+    let same : c.in-Err-drive_alone.stop ≡ Unscoped refusal = cc in
+    rw same at (c.in-Err-drive_alone.ensures.unread (mask_search words) words c.in-Ok.ensures.says)
 
 pub returns-in-Ok-drive_alone-clause-refused : goal.returns-in-Ok-drive_alone-clause-refused
 returns-in-Ok-drive_alone-clause-refused g c = λ refusal is.

@@ -1,7 +1,4 @@
-use Rattle.std.proofs.Common.{sym, subst}
-use Rattle.std.specs.Prelude.{Option}
-use Rattle.run_outcome.specs.declared.stop.Stop.{Stop}
-use Rattle.psr_mask.specs.Ends.{EndsFed}
+use Rattle.std.proofs.Common.{sym}
 use Rattle.psr_mask.proofs.Statuses.{whole_is}
 use Rattle.psr_mask.proofs.writing.write_end.Goals as goal
 
@@ -24,9 +21,5 @@ pub returns-in-None-clause-ended : goal.returns-in-None-clause-ended
 returns-in-None-clause-ended g c = λ mask bytes holds.
     let o = c.args.observation.now in
     let s = c.args.search.now in
-    subst
-    (λ (x : Option Stop). EndsFed x o s mask bytes (g.K.Sink.seen c.args.out.now)
-    (g.K.Sink.seen c.write_text-in-None.new.out) c.write_text-in-None.result)
-    c.in-None.ensures.is
-    (c.write_text-in-None.ensures.ended mask bytes
+    rw (← c.in-None.ensures.is) (c.write_text-in-None.ensures.ended mask bytes
     (c.of_engine.ensures.found o s mask bytes holds.searches holds.found))
